@@ -1,0 +1,4 @@
+pub mod Agree
+pub mod Pass
+pub mod Clock
+pub mod Laws

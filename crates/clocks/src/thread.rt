@@ -1,0 +1,2 @@
+// A thread's number, and never an object's (loom's thread::Id).
+pub struct ThreadId(pub u8);
