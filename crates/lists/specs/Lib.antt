@@ -1,0 +1,6 @@
+pub mod Order
+pub mod Rules
+pub mod Judge
+pub mod Greedy
+pub mod Next
+pub mod Walk

@@ -1,0 +1,1 @@
+// Complete lists of decisions, for any machine: definitions and laws only, in specs/.

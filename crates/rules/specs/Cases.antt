@@ -1,0 +1,94 @@
+-- Worked examples as tables of cases: what a call gives for a table and a list, beside what document 01 says that it gives.
+use Prim.Native.Nat.{ℕ}
+use mathlib.Core.List.{List, [], _∷_}
+use lib.ListN.{take, drop, replicate}
+use Rattle.clocks.specs.Clock as clocks-clock
+use Rattle.lists.specs.Judge as lists-judge
+use Rattle.lists.specs.Greedy as lists-greedy
+use Rattle.lists.specs.Next as lists-next
+use Rattle.lists.specs.Walk as lists-walk
+use Rattle.rules.specs.Ground as ground
+use Rattle.rules.specs.Mutex as mutex
+use Rattle.rules.specs.RwLock as rwlock
+use Rattle.rules.specs.Mpsc as mpsc
+use Rattle.rules.specs.Arc as arc
+use Rattle.rules.specs.Notify as notify
+use Rattle.rules.specs.Condvar as condvar
+use Rattle.rules.specs.Cell as cell
+use Rattle.rules.specs.Object as object
+use Rattle.rules.specs.Table as table
+use Rattle.rules.specs.Answer as answer
+use Rattle.rules.specs.Effect as effect
+use Rattle.rules.specs.Announce as announce
+use Rattle.rules.specs.Turn as turn
+use Rattle.rules.specs.Sheet as sheet
+use Rattle.rules.specs.Judge as judge
+use Rattle.rules.specs.Walk as walk
+use Rattle.rules.specs.declared.answer.Numbers.{Numbers}
+
+-- what is looked at: the six numbers, n bytes of the buffer from a place on, or the lines that `runs` prints
+pub data Look : Type 0 where
+  numbers : Look
+  bytes : ℕ → ℕ → Look
+  runs : Look
+
+pub record Case : Type 0 where
+  pub table : List ℕ
+  pub list : List ℕ
+  pub look : Look
+  pub expected : List ℕ
+
+abbrev sixNumbers : Numbers → List ℕ
+sixNumbers n = n .number ∷ n .place ∷ n .thread ∷ n .position ∷ n .object ∷ n .other ∷ []
+
+-- the buffer that is lent: 160 times EE
+abbrev pub lent : List ℕ
+lent = replicate 160 0xEE
+
+abbrev seen : Look → List ℕ → List ℕ → List ℕ
+seen numbers table list = sixNumbers (answer.numbersOf (judge.judgeOf table list lent .answer))
+seen (bytes from n) table list = take n (drop from (judge.judgeOf table list lent .buffer))
+seen runs table list = walk.runsOf 9 table
+
+-- to open this is to open every definition
+unfoldable pub given : Case → List ℕ
+unfolding ground.stored ground.loaded ground.ownCountUp ground.setRunnable ground.setBlocked ground.unparkState
+    ground.unpark ground.unparkThread ground.isRunnable ground.hasUnpark ground.isEnded ground.isOn
+    ground.isWrite ground.isRecv ground.actionOf ground.changed ground.changedAt ground.others
+    mutex.isLocked mutex.taking mutex.postAcquire mutex.releaseLock rwlock.isReader rwlock.withReader
+    rwlock.withoutReader rwlock.isWriteLocked rwlock.isReadLocked rwlock.reading rwlock.writing rwlock.postAcquireReadLock
+    rwlock.postAcquireWriteLock rwlock.freed rwlock.leaving rwlock.releaseReadLock rwlock.releaseWriteLock mpsc.lastDependentAccess
+    mpsc.setLastAccess mpsc.sent mpsc.send mpsc.received mpsc.isEmpty mpsc.recv
+    mpsc.leaks arc.lastModification arc.lastDependentAccess arc.setLastAccess arc.refInc arc.dropped
+    arc.refDec arc.inspected arc.getMut arc.strongCount arc.leaks notify.mightSpur
+    notify.spur notify.notify notify.wait condvar.queued condvar.notifyOne condvar.unparkEach
+    condvar.notifyAll cell.startReadMisuse cell.startWriteMisuse cell.endReadMisuse cell.endWriteMisuse cell.racing
+    cell.firstRace cell.trackRead cell.trackWrite cell.accessed cell.unless cell.startRead
+    cell.endRead cell.startWrite cell.endWrite object.newEntry object.announced object.anyAccess
+    object.setAnyAccess object.lastDependentAccess object.setLastAccess object.leaks table.calls table.kinds
+    table.isObject table.isOperation table.bodyLength table.flagsFine table.wholeRecord table.recordOf
+    table.kindOf table.kindNumber table.isKind table.objectsFine table.emptyTable table.withObject
+    table.withThread table.withOp table.oneRecord table.atEnd table.readFrom table.readTable
+    table.opsOf answer.numbersOf effect.misuseUnless effect.noRoomUnless effect.answered effect.yesNo
+    effect.mutexEffect effect.rwlockEffect effect.condvarEffect effect.notifyEffect effect.channelEffect effect.counted
+    effect.arcEffect effect.touched effect.cellEffect effect.effect announce.isFree announce.actionOf
+    announce.isDisabled turn.allEnded turn.anyRunnable turn.leakCheck turn.announcedObject turn.stuck
+    turn.afterTurn turn.announce turn.retake turn.dependence turn.depend turn.advance
+    turn.unannounced turn.endingOf turn.perform announce.asks turn.goOn turn.park
+    turn.waiting turn.thereafter turn.operate turn.mutexOf turn.turnOf turn.opsLeft
+    turn.begin turn.spurious turn.question turn.decideAt turn.decide turn.startThread
+    turn.start sheet.stateByte sheet.phaseByte sheet.threadBytes sheet.holderByte sheet.mutexBytes
+    sheet.formByte sheet.whoByte sheet.rwlockBytes sheet.condvarBytes sheet.notifyBytes sheet.channelBytes
+    sheet.arcBytes sheet.cellBytes sheet.objectBytes sheet.objectsBytes sheet.sheetOf sheet.recordLength
+    sheet.objectsLength sheet.sheetLength judge.outcomeOf judge.step judge.shown judge.judgeTable
+    judge.judgeOf walk.waitsFor walk.leftIn walk.leftOf walk.leftFrom walk.askedOf
+    walk.left walk.handOver walk.firstTable walk.firstOf walk.nextList walk.nextJudged
+    walk.nextTable walk.nextOf walk.hexDigit walk.decisionText walk.verdictDigit walk.runLine
+    walk.runLines walk.decimal walk.refusedLine walk.runsTable walk.runsOf lists-judge.judge
+    lists-greedy.seek lists-greedy.smallest lists-greedy.larger lists-greedy.greedy lists-next.firstOf lists-next.raised
+    lists-next.later lists-next.pass lists-next.nextOf lists-walk.walkFrom lists-walk.walk clocks-clock.joinOf
+    clocks-clock.incOf clocks-clock.aheadOf
+given c = seen (c .look) (c .table) (c .list)
+
+abbrev pub expectedOf : Case → List ℕ
+expectedOf c = c .expected

@@ -1,0 +1,100 @@
+-- What a turn's verdicts are: "A list is complete when it gives 0 to 5", and every verdict of a decision is one of those.
+use mathlib.Core.Path.{_≡_}
+use mathlib.Core.List.{List, [], _∷_}
+use Prim.Native.Nat.{ℕ, suc, _≤_}
+use native.Mathlib.Omega.{arith}
+use lib.Dec.{eqb}
+use Rattle.clocks.specs.declared.thread.ThreadId.{ThreadId}
+use Rattle.rules.specs.declared.object.Entry.{Entry}
+use Rattle.rules.specs.declared.object.Ending.{Ending}
+use Rattle.rules.specs.declared.object.Ending.the-variants as ending
+use Rattle.rules.specs.declared.condvar.Call.the-variants as condvar-call
+use Rattle.rules.specs.declared.thread.Phase.{Phase}
+use Rattle.rules.specs.declared.thread.Phase.the-variants.{Nothing, Announced, Parked, Retaking}
+use Rattle.rules.specs.declared.table.Call.{Call}
+use Rattle.rules.specs.declared.table.Call.the-variants.{Mutex, RwLock, Condvar, Notify, Channel, Arc, Cell}
+use Rattle.rules.specs.declared.table.Op.{Op}
+use Rattle.rules.specs.declared.table.Table.{Table}
+use Rattle.rules.specs.declared.answer.Answer.{Answer}
+use Rattle.rules.specs.declared.answer.Spot.{Spot}
+use Rattle.rules.specs.declared.world.Asked.{Asked}
+use Rattle.rules.specs.declared.world.Asked.the-variants as asked
+use Rattle.rules.specs.declared.world.World.{World}
+use Rattle.rules.specs.declared.world.Step.{Step}
+use Rattle.rules.specs.declared.world.Step.the-variants.{Refused, Done, Wants}
+use Rattle.rules.specs.declared.world.Decided.{Decided}
+use Rattle.rules.specs.Ground.{isRunnable}
+use Rattle.rules.specs.Object.{leaks}
+use Rattle.rules.specs.Answer.{numbersOf}
+use Rattle.rules.specs.TableLaws.{by-test}
+use Rattle.rules.specs.Announce.{isFree, asks}
+use Rattle.rules.specs.Turn.{allEnded, anyRunnable, leakCheck, afterTurn, endingOf, perform, goOn, waiting, thereafter, operate, turnOf, begin, question, decideAt, decide, entryIn, threadIn}
+
+-- a verdict's number is 0 to 5
+abbrev Told : Step → Type 0
+Told Refused = Unit {0}
+Told (Done a) = numbersOf a .number ≤ 5
+Told Wants = Unit {0}
+
+abbrev Fine : Decided → Type 0
+Fine r = Told (r .step)
+
+leak-told : (k : ℕ) (es : List Entry) → numbersOf (leakCheck k es) .number ≤ 5
+unfolding leakCheck numbersOf
+leak-told k [] = omega arith
+leak-told k (e ∷ es) = by-test (λ (a : Answer). numbersOf a .number ≤ 5) (leaks (e .kind) e) (λ l. omega arith) (λ l. leak-told (suc k) es)
+
+after-told : (w : World) → Fine (afterTurn w)
+unfolding afterTurn numbersOf
+after-told w = by-test Fine (allEnded (w .threads)) (λ a. leak-told 0 (w .objects)) (λ a. by-test Fine (anyRunnable (w .threads)) (λ r. tt) (λ r. omega arith))
+
+ending-told : (e : Ending) (s : Spot) (shown : World) (next : Decided) → Fine next → Fine (endingOf e s shown next)
+unfolding endingOf numbersOf
+ending-told ending.Fine s shown next f = f
+ending-told ending.Misuse s shown next f = omega arith
+ending-told ending.NoRoom s shown next f = omega arith
+ending-told (ending.Race o) s shown next f = omega arith
+
+perform-told : (t : ThreadId) (op : Op) (shown w : World) (go : World → Decided) → ((v : World) → Fine (go v)) → Fine (perform t op shown w go)
+unfolding perform
+perform-told t op shown w go f = ending-told _ _ shown _ (f _)
+
+go-told : (t : ThreadId) (ops : List Op) (w : World) → Fine (goOn t ops w)
+unfolding goOn
+go-told t [] w = after-told _
+go-told t (op ∷ ops) w =
+    by-test Fine (isFree (op .call)) (λ b. perform-told t op w w _ (λ v. go-told t ops _))
+    (λ b. by-test Fine (asks (op .call) (entryIn w (op .object))) (λ q. tt) (λ q. after-told _))
+
+then-told : (c : Call) (t : ThreadId) (ops : List Op) (w : World) → Fine (thereafter c t ops w)
+unfolding thereafter waiting
+then-told (Mutex c) t ops w = go-told t ops _
+then-told (RwLock c) t ops w = go-told t ops _
+then-told (Condvar (condvar-call.Wait m)) t ops w = after-told _
+then-told (Condvar condvar-call.NotifyOne) t ops w = go-told t ops _
+then-told (Condvar condvar-call.NotifyAll) t ops w = go-told t ops _
+then-told (Notify c) t ops w = go-told t ops _
+then-told (Channel c) t ops w = go-told t ops _
+then-told (Arc c) t ops w = go-told t ops _
+then-told (Cell c) t ops w = go-told t ops _
+
+operate-told : (t : ThreadId) (op : Op) (ops : List Op) (shown w : World) → Fine (operate t op ops shown w)
+unfolding operate
+operate-told t op ops shown w = perform-told t op shown _ _ (then-told (op .call) t ops)
+
+turn-told : (p : Phase) (t : ThreadId) (ops : List Op) (shown w : World) → Fine (turnOf p t ops shown w)
+unfolding turnOf
+turn-told Nothing t ops shown w = go-told t ops w
+turn-told (Announced p) t ops shown w = operate-told t _ _ shown w
+turn-told Parked t ops shown w = after-told _
+turn-told (Retaking p) t ops shown w = operate-told t _ _ shown w
+
+decide-told : (a : Asked) (table : Table) (w : World) (d : ℕ) → Fine (decideAt a table w d)
+unfolding decideAt begin question
+decide-told asked.Nobody table w d = by-test Fine (isRunnable (threadIn w (record { 0 = d }) .state)) (λ r. turn-told _ _ _ _ _) (λ r. tt)
+decide-told (asked.Thread t) table w d = by-test Fine (eqb d 0) (λ z. after-told _) (λ z. by-test Fine (eqb d 1) (λ o. after-told _) (λ o. tt))
+
+-- a decision's verdict is one of 0 to 5
+pub verdict-number : (table : Table) (w : World) (d : ℕ) (a : Answer) → decide table w d .step ≡ Done a → numbersOf a .number ≤ 5
+unfolding decide
+verdict-number table w d a e = rw e at (decide-told (w .asked) table w d)

@@ -1,0 +1,30 @@
+// loom's rt/mpsc.rs. The messages' clocks stand oldest first; a place that no message has holds the zero clock.
+use crate::access::Access;
+use crate::thread::Thread;
+use clocks::Clock;
+
+pub enum Call {
+    Send,
+    Recv,
+}
+
+pub enum Action {
+    MsgSend,
+    MsgRecv,
+}
+
+pub const MESSAGES: usize = 16;
+
+pub struct State {
+    pub msg_cnt: u8,
+    pub last_send_access: Access,
+    pub last_recv_access: Access,
+    pub sender_synchronize: Clock,
+    pub receiver_synchronize: [Clock; MESSAGES],
+}
+
+pub struct Passed {
+    pub done: bool,
+    pub state: State,
+    pub threads: [Thread; 6],
+}

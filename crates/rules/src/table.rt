@@ -1,0 +1,49 @@
+// A table: its objects, and each thread's operations.
+use crate::arc;
+use crate::cell;
+use crate::condvar;
+use crate::mpsc;
+use crate::mutex;
+use crate::notify;
+use crate::object::Kind;
+use crate::object::ObjectId;
+use crate::rwlock;
+
+pub enum Call {
+    Mutex(mutex::Call),
+    RwLock(rwlock::Call),
+    Condvar(condvar::Call),
+    Notify(notify::Call),
+    Channel(mpsc::Call),
+    Arc(arc::Call),
+    Cell(cell::Call),
+}
+
+// An operation as a table has it.
+pub struct Op {
+    pub call: Call,
+    pub object: ObjectId,
+}
+
+// An object as a table has it.
+pub struct Made {
+    pub kind: Kind,
+    pub spurious: bool,
+}
+
+// The operations of thread t are ops[32 * t ..], counts[t] of them.
+pub struct Table {
+    pub objects: [Made; 16],
+    pub object_count: u8,
+    pub ops: [Op; 192],
+    pub counts: [u8; 6],
+    pub thread_count: u8,
+}
+
+// One record of a table.
+pub enum Record {
+    Object(Made),
+    Thread,
+    Operation(Op),
+    Bad,
+}
