@@ -27,13 +27,13 @@ new = record {
   «last_ref_modification» = modify.Nothing;
 }
 
-unfoldable pub lastModification : RefModify → State → Access
+abbrev pub lastModification : RefModify → State → Access
 lastModification modify.Nothing s = noAccess
 lastModification modify.RefInc s = s .«last_ref_inc»
 lastModification modify.RefDec s = s .«last_ref_dec»
 
 -- "RefInc: the last Inspect only. RefDec, as which get_mut counts: the last RefDec. Inspect: the last modification."
-unfoldable pub lastDependentAccess : Action → State → Access
+abbrev pub lastDependentAccess : Action → State → Access
 lastDependentAccess RefInc s = s .«last_ref_inspect»
 lastDependentAccess RefDec s = s .«last_ref_dec»
 lastDependentAccess Inspect s = lastModification (s .«last_ref_modification») s
@@ -48,7 +48,7 @@ withAccesses s inc dec inspect m = record {
   «last_ref_modification» = m;
 }
 
-unfoldable pub setLastAccess : Action → Access → State → State
+abbrev pub setLastAccess : Action → Access → State → State
 setLastAccess RefInc a s = withAccesses s a (s .«last_ref_dec») (s .«last_ref_inspect») modify.RefInc
 setLastAccess RefDec a s = withAccesses s (s .«last_ref_inc») a (s .«last_ref_inspect») modify.RefDec
 setLastAccess Inspect a s = withAccesses s (s .«last_ref_inc») (s .«last_ref_dec») a (s .«last_ref_modification»)
@@ -98,5 +98,5 @@ unfoldable pub strongCount : ThreadId → State → List Thread → Counted
 strongCount active s ts = inspected active (s .«ref_cnt») s ts
 
 -- a leak: the "Arc count .. not 0"
-unfoldable pub leaks : State → Bool
+abbrev pub leaks : State → Bool
 leaks s = elim (eqb (s .«ref_cnt») 0) [ true ↦ false | false ↦ true ]

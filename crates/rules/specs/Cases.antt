@@ -52,18 +52,18 @@ seen runs table list = walk.runsOf 9 table
 
 -- to open this is to open every definition
 unfoldable pub given : Case → List ℕ
-unfolding ground.stored ground.loaded ground.ownCountUp ground.setRunnable ground.setBlocked ground.unparkState
-    ground.unpark ground.unparkThread ground.isRunnable ground.hasUnpark ground.isEnded ground.isOn
-    ground.isWrite ground.isRecv ground.actionOf ground.changed ground.changedAt ground.others
-    mutex.isLocked mutex.taking mutex.postAcquire mutex.releaseLock rwlock.isReader rwlock.withReader
-    rwlock.withoutReader rwlock.isWriteLocked rwlock.isReadLocked rwlock.reading rwlock.writing rwlock.postAcquireReadLock
-    rwlock.postAcquireWriteLock rwlock.freed rwlock.leaving rwlock.releaseReadLock rwlock.releaseWriteLock mpsc.lastDependentAccess
-    mpsc.setLastAccess mpsc.sent mpsc.send mpsc.received mpsc.isEmpty mpsc.recv
-    mpsc.leaks arc.lastModification arc.lastDependentAccess arc.setLastAccess arc.refInc arc.dropped
-    arc.refDec arc.inspected arc.getMut arc.strongCount arc.leaks notify.mightSpur
-    notify.spur notify.notify notify.wait condvar.queued condvar.notifyOne condvar.unparkEach
-    condvar.notifyAll cell.startReadMisuse cell.startWriteMisuse cell.endReadMisuse cell.endWriteMisuse cell.racing
-    cell.firstRace cell.trackRead cell.trackWrite cell.accessed cell.unless cell.startRead
+unfolding ground.loaded
+    ground.unparkThread
+    ground.changed ground.changedAt ground.others
+    mutex.taking mutex.postAcquire mutex.releaseLock rwlock.isReader rwlock.withReader
+    rwlock.withoutReader rwlock.reading rwlock.writing rwlock.postAcquireReadLock
+    rwlock.postAcquireWriteLock rwlock.freed rwlock.leaving rwlock.releaseReadLock rwlock.releaseWriteLock
+    mpsc.sent mpsc.send mpsc.received mpsc.recv
+    arc.refInc arc.dropped
+    arc.refDec arc.inspected arc.getMut arc.strongCount
+    notify.notify notify.wait condvar.queued condvar.notifyOne condvar.unparkEach
+    condvar.notifyAll
+    cell.trackRead cell.trackWrite cell.startRead
     cell.endRead cell.startWrite cell.endWrite object.newEntry object.announced object.anyAccess
     object.setAnyAccess object.lastDependentAccess object.setLastAccess object.leaks table.calls table.kinds
     table.isObject table.isOperation table.bodyLength table.flagsFine table.wholeRecord table.recordOf

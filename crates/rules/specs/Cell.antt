@@ -21,25 +21,25 @@ abbrev pub isReading : State → Bool
 isReading s = not (eqb (s .«is_reading») 0)
 
 -- "44 is misuse while writing; 46 while reading or writing; 45 needs a read and no write; 47 a write and no read."
-unfoldable pub startReadMisuse : State → Bool
+abbrev pub startReadMisuse : State → Bool
 startReadMisuse s = s .«is_writing»
 
-unfoldable pub startWriteMisuse : State → Bool
+abbrev pub startWriteMisuse : State → Bool
 startWriteMisuse s = isReading s || s .«is_writing»
 
-unfoldable pub endReadMisuse : State → Bool
+abbrev pub endReadMisuse : State → Bool
 endReadMisuse s = not (isReading s) || s .«is_writing»
 
-unfoldable pub endWriteMisuse : State → Bool
+abbrev pub endWriteMisuse : State → Bool
 endWriteMisuse s = not (s .«is_writing») || isReading s
 
 -- "Otherwise race; other is the lowest thread ahead."
-unfoldable pub racing : Ahead → Ending
+abbrev pub racing : Ahead → Ending
 racing Nobody = Fine
 racing (Threads mask lowest) = Race lowest
 
 -- the first of two checks that fails
-unfoldable pub firstRace : Ending → Ending → Ending
+abbrev pub firstRace : Ending → Ending → Ending
 firstRace Fine second = second
 firstRace Misuse second = Misuse
 firstRace NoRoom second = NoRoom
@@ -54,14 +54,14 @@ unfoldable pub trackWrite : Clock → State → Ending
 trackWrite c s = firstRace (racing (aheadOf c (s .«write_access»))) (racing (aheadOf c (s .«read_access»)))
 
 -- an access that races or is misuse leaves all as it was; `next` and `t` are what a fine one leaves
-unfoldable pub accessed : Ending → State → State → Thread → Thread → Accessed
+abbrev pub accessed : Ending → State → State → Thread → Thread → Accessed
 accessed Fine before next was t = record { ending = Fine; state = next; thread = t }
 accessed Misuse before next was t = record { ending = Misuse; state = before; thread = was }
 accessed NoRoom before next was t = record { ending = NoRoom; state = before; thread = was }
 accessed (Race o) before next was t = record { ending = Race o; state = before; thread = was }
 
 -- misuse is told before the clocks are compared
-unfoldable pub unless : Bool → Ending → Ending
+abbrev pub unless : Bool → Ending → Ending
 unless true e = Misuse
 unless false e = e
 

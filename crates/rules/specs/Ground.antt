@@ -57,7 +57,7 @@ abbrev pub noAccess : Access
 noAccess = record { «path_id» = 0; version = zeroClock }
 
 -- "Store (Release) joins the active thread's clock into the object's clock"
-unfoldable pub stored : ThreadId → List Thread → Clock → Clock
+abbrev pub stored : ThreadId → List Thread → Clock → Clock
 stored active ts c = joinOf c (threadAt ts active .clock)
 
 -- "load (Acquire) joins the object's into the thread's"
@@ -65,25 +65,25 @@ unfoldable pub loaded : ThreadId → Clock → List Thread → List Thread
 loaded active c ts = putThread ts active (withClock (threadAt ts active) (joinOf (threadAt ts active .clock) c))
 
 -- "Before start_read and start_write the active thread's own count rises by one."
-unfoldable pub ownCountUp : ThreadId → Thread → Thread
+abbrev pub ownCountUp : ThreadId → Thread → Thread
 ownCountUp active t = withClock t (incOf (t .clock) active)
 
 -- "set_runnable and set_blocked both drop a stored unpark."
-unfoldable pub setRunnable : Thread → Thread
+abbrev pub setRunnable : Thread → Thread
 setRunnable t = withState t Runnable
 
-unfoldable pub setBlocked : Thread → Thread
+abbrev pub setBlocked : Thread → Thread
 setBlocked t = withState t Blocked
 
 -- "blocked becomes runnable, runnable stores the unpark, ended stays ended"
-unfoldable pub unparkState : State → State
+abbrev pub unparkState : State → State
 unparkState Runnable = Unparked
 unparkState Unparked = Unparked
 unparkState Blocked = Runnable
 unparkState Ended = Ended
 
 -- "it joins the active clock into the target, then .."
-unfoldable pub unpark : Clock → Thread → Thread
+abbrev pub unpark : Clock → Thread → Thread
 unpark by t = withState (withClock t (joinOf (t .clock) by)) (unparkState (t .state))
 
 -- "unpark of the active thread does nothing; otherwise .."
@@ -91,39 +91,39 @@ unfoldable pub unparkThread : ThreadId → ThreadId → List Thread → List Thr
 unparkThread active t ts = elim (eqb (t .0) (active .0)) [ true ↦ ts | false ↦ putThread ts t (unpark (threadAt ts active .clock) (threadAt ts t)) ]
 
 -- "A turn begins with a decision naming a runnable thread": a stored unpark makes no difference
-unfoldable pub isRunnable : State → Bool
+abbrev pub isRunnable : State → Bool
 isRunnable Runnable = true
 isRunnable Unparked = true
 isRunnable Blocked = false
 isRunnable Ended = false
 
-unfoldable pub hasUnpark : State → Bool
+abbrev pub hasUnpark : State → Bool
 hasUnpark Runnable = false
 hasUnpark Unparked = true
 hasUnpark Blocked = false
 hasUnpark Ended = false
 
-unfoldable pub isEnded : State → Bool
+abbrev pub isEnded : State → Bool
 isEnded Runnable = false
 isEnded Unparked = false
 isEnded Blocked = false
 isEnded Ended = true
 
 -- "announced on it": by an operation, or in retaking a mutex
-unfoldable pub isOn : ObjectId → Phase → Bool
+abbrev pub isOn : ObjectId → Phase → Bool
 isOn o Nothing = false
 isOn o (Announced p) = eqb (p .obj .0) (o .0)
 isOn o Parked = false
 isOn o (Retaking p) = eqb (p .obj .0) (o .0)
 
-unfoldable pub isWrite : Action → Bool
+abbrev pub isWrite : Action → Bool
 isWrite (action.Arc a) = false
 isWrite (action.Channel a) = false
 isWrite (action.RwLock rwlock.Read) = false
 isWrite (action.RwLock rwlock.Write) = true
 isWrite action.Opaque = false
 
-unfoldable pub isRecv : Action → Bool
+abbrev pub isRecv : Action → Bool
 isRecv (action.Arc a) = false
 isRecv (action.Channel mpsc.MsgSend) = false
 isRecv (action.Channel mpsc.MsgRecv) = true
@@ -131,18 +131,22 @@ isRecv (action.RwLock a) = false
 isRecv action.Opaque = false
 
 -- the action that a phase announces; one that announces none has no action of its own kind
-unfoldable pub actionOf : Phase → Action
+abbrev pub actionOf : Phase → Action
 actionOf Nothing = action.Opaque
 actionOf (Announced p) = p .action
 actionOf Parked = action.Opaque
 actionOf (Retaking p) = p .action
 
+abbrev pub blockedIf : Bool → Thread → Thread
+blockedIf true t = setBlocked t
+blockedIf false t = t
+
 -- what a pass does to a thread that is announced on the object; `by` is the active thread's clock
 unfoldable pub changed : Change → Clock → Thread → Thread
 changed Wake by t = setRunnable t
 changed Block by t = setBlocked t
-changed BlockWriters by t = elim (isWrite (actionOf (t .phase))) [ true ↦ setBlocked t | false ↦ t ]
-changed BlockReceivers by t = elim (isRecv (actionOf (t .phase))) [ true ↦ setBlocked t | false ↦ t ]
+changed BlockWriters by t = blockedIf (isWrite (actionOf (t .phase))) t
+changed BlockReceivers by t = blockedIf (isRecv (actionOf (t .phase))) t
 changed Unpark by t = unpark by t
 
 -- one record of a pass: "every other thread announced on" the object

@@ -27,11 +27,11 @@ new = record {
 }
 
 -- "Channel: the last of the same action."
-unfoldable pub lastDependentAccess : Action → State → Access
+abbrev pub lastDependentAccess : Action → State → Access
 lastDependentAccess MsgSend s = s .«last_send_access»
 lastDependentAccess MsgRecv s = s .«last_recv_access»
 
-unfoldable pub setLastAccess : Action → Access → State → State
+abbrev pub setLastAccess : Action → Access → State → State
 setLastAccess MsgSend a s = record {
   «msg_cnt» = s .«msg_cnt»;
   «last_send_access» = a;
@@ -84,12 +84,12 @@ received active o s ts = record {
     after = loaded active (getD (s .«receiver_synchronize») 0 zeroClock) ts
 
 -- "recv blocks at its announcement if the count is 0"; at its effect that is misuse
-unfoldable pub isEmpty : State → Bool
+abbrev pub isEmpty : State → Bool
 isEmpty s = eqb (s .«msg_cnt») 0
 
 unfoldable pub recv : ThreadId → ObjectId → State → List Thread → Passed
 recv active o s ts = elim (isEmpty s) [ true ↦ refused s ts | false ↦ received active o s ts ]
 
 -- a leak: the "message count not 0"
-unfoldable pub leaks : State → Bool
+abbrev pub leaks : State → Bool
 leaks s = elim (isEmpty s) [ true ↦ false | false ↦ true ]

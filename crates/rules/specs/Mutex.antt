@@ -21,7 +21,7 @@ abbrev pub withAccess : State → Access → State
 withAccess s a = record { lock = s .lock; «last_access» = a; synchronize = s .synchronize }
 
 -- "announced acquire blocks if held"
-unfoldable pub isLocked : Lock → Bool
+abbrev pub isLocked : Lock → Bool
 isLocked Free = false
 isLocked (Held t) = true
 

@@ -19,11 +19,11 @@ abbrev pub withAccess : State → Access → State
 withAccess s a = record { spurious = s .spurious; «did_spur» = s .«did_spur»; notified = s .notified; «last_access» = a; synchronize = s .synchronize }
 
 -- "A Notify wait with spurious set and did_spur clear first takes a decision"
-unfoldable pub mightSpur : State → Bool
+abbrev pub mightSpur : State → Bool
 mightSpur s = s .spurious && not (s .«did_spur»)
 
 -- "On 1, did_spur is set, .. notified is untouched."
-unfoldable pub spur : State → State
+abbrev pub spur : State → State
 spur s = record { spurious = s .spurious; «did_spur» = true; notified = s .notified; «last_access» = s .«last_access»; synchronize = s .synchronize }
 
 -- "notify stores, sets notified, unparks all others announced on it"

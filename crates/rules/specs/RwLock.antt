@@ -36,12 +36,12 @@ unfoldable pub withoutReader : ℕ → ThreadId → ℕ
 withoutReader mask t = elim (isReader mask t) [ true ↦ mask - 2 ^ (t .0) | false ↦ mask ]
 
 -- "33 blocks while written, 34 while locked at all; in the same cases 35 and 36 fail"
-unfoldable pub isWriteLocked : Locked → Bool
+abbrev pub isWriteLocked : Locked → Bool
 isWriteLocked Free = false
 isWriteLocked (Read mask) = false
 isWriteLocked (Write t) = true
 
-unfoldable pub isReadLocked : Locked → Bool
+abbrev pub isReadLocked : Locked → Bool
 isReadLocked Free = false
 isReadLocked (Read mask) = true
 isReadLocked (Write t) = false

@@ -1,0 +1,4 @@
+// The lock objects: one module for each of loom's files, over thread records by value.
+pub mod access;
+pub mod mutex;
+pub mod thread;
