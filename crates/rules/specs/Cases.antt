@@ -63,7 +63,7 @@ unfolding ground.loaded
     arc.refDec arc.inspected arc.getMut arc.strongCount
     notify.notify notify.wait condvar.queued condvar.notifyOne condvar.unparkEach
     condvar.notifyAll
-    cell.trackRead cell.trackWrite cell.startRead
+    cell.firstRace cell.accessed cell.trackRead cell.trackWrite cell.startRead
     cell.endRead cell.startWrite cell.endWrite object.newEntry object.announced object.anyAccess
     object.setAnyAccess object.lastDependentAccess object.setLastAccess object.leaks table.calls table.kinds
     table.isObject table.isOperation table.bodyLength table.flagsFine table.wholeRecord table.recordOf

@@ -38,12 +38,15 @@ abbrev pub racing : Ahead → Ending
 racing Nobody = Fine
 racing (Threads mask lowest) = Race lowest
 
+abbrev pub isFine : Ending → Bool
+isFine Fine = true
+isFine Misuse = false
+isFine NoRoom = false
+isFine (Race t) = false
+
 -- the first of two checks that fails
-abbrev pub firstRace : Ending → Ending → Ending
-firstRace Fine second = second
-firstRace Misuse second = Misuse
-firstRace NoRoom second = NoRoom
-firstRace (Race t) second = Race t
+unfoldable pub firstRace : Ending → Ending → Ending
+firstRace first second = elim (isFine first) [ true ↦ second | false ↦ first ]
 
 -- "read steps need the write clock at most the thread's, and join the read clock"
 unfoldable pub trackRead : Clock → State → Ending
@@ -54,11 +57,9 @@ unfoldable pub trackWrite : Clock → State → Ending
 trackWrite c s = firstRace (racing (aheadOf c (s .«write_access»))) (racing (aheadOf c (s .«read_access»)))
 
 -- an access that races or is misuse leaves all as it was; `next` and `t` are what a fine one leaves
-abbrev pub accessed : Ending → State → State → Thread → Thread → Accessed
-accessed Fine before next was t = record { ending = Fine; state = next; thread = t }
-accessed Misuse before next was t = record { ending = Misuse; state = before; thread = was }
-accessed NoRoom before next was t = record { ending = NoRoom; state = before; thread = was }
-accessed (Race o) before next was t = record { ending = Race o; state = before; thread = was }
+unfoldable pub accessed : Ending → State → State → Thread → Thread → Accessed
+accessed e before next was t =
+    elim (isFine e) [ true ↦ record { ending = e; state = next; thread = t } | false ↦ record { ending = e; state = before; thread = was } ]
 
 -- misuse is told before the clocks are compared
 abbrev pub unless : Bool → Ending → Ending
