@@ -1,12 +1,34 @@
 -- Laws of lists that the library does not have.
-use mathlib.Core.Path.{_≡_, refl}
+use mathlib.Core.Path.{_≡_, refl, _∙_}
 use mathlib.Core.List.{List, [], _∷_}
-use Prim.Native.Nat.{ℕ, zero, suc, _<_}
+use Prim.Native.Nat.{ℕ, zero, suc, _+_, _≤_, _<_}
 use native.Mathlib.Nat.{not-suc-le-zero, le-of-suc-le-suc}
-use lib.ListN.{length, getD}
+use native.Mathlib.Omega.{arith}
+use lib.ListN.{length, getD, take, drop, length-take, List·getD-eq-default}
+use lib.Seq.{getD-take, getD-drop}
 
 -- what is read within a list does not depend on what a place past its end would read
 pub getD-within : {A : Type 0} (xs : List A) (i : ℕ) (d e : A) → i < length xs → getD xs i d ≡ getD xs i e
 getD-within [] i d e h = absurd (not-suc-le-zero h)
 getD-within (x ∷ xs) zero d e h = refl
 getD-within (x ∷ xs) (suc i) d e h = getD-within xs i d e (le-of-suc-le-suc h)
+
+-- a byte within a part of a list; before the part's end, past it, and past the list's
+module _ {A : Type 0} (xs : List A) (from n i : ℕ) (d : A) where
+  pub part-at : i < n → getD (take n (drop from xs)) i d ≡ getD xs (from + i) d
+  part-at h = getD-take n (drop from xs) i d h ∙ getD-drop from xs i d
+
+  pub part-past : n ≤ i → getD (take n (drop from xs)) i d ≡ d
+  part-past h = List·getD-eq-default (take n (drop from xs)) d (omega (arith, length-take n (drop from xs)))
+
+  pub part-end : i < n → length xs ≤ from + i → getD (take n (drop from xs)) i d ≡ d
+  part-end h k = part-at h ∙ List·getD-eq-default xs d k
+
+-- n is none of the numbers below k, as a `match` on a number tells it in its last arm
+abbrev pub NoneBelow : ℕ → ℕ → Type 0
+NoneBelow zero n = Unit {0}
+NoneBelow (suc k) n = NoneBelow k n × (n ≡ k → ⊥)
+
+pub none-below : (k n : ℕ) → NoneBelow k n → k ≤ n
+none-below zero n r = omega arith
+none-below (suc k) n r = let low = none-below k n (r .0) in let other = r .1 in omega arith

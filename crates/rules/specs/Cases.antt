@@ -66,9 +66,9 @@ unfolding ground.loaded
     cell.firstRace cell.accessed cell.trackRead cell.trackWrite cell.startRead
     cell.endRead cell.startWrite cell.endWrite object.newEntry object.announced object.anyAccess
     object.setAnyAccess object.lastDependentAccess object.setLastAccess object.leaks table.calls table.kinds
-    table.isObject table.isOperation table.bodyLength table.flagsFine table.wholeRecord table.recordOf
-    table.kindOf table.kindNumber table.isKind table.objectsFine table.emptyTable table.withObject
-    table.withThread table.withOp table.oneRecord table.atEnd table.readFrom table.readTable
+    table.isObject table.isOperation table.bodyLength table.objectOf table.operationOf table.wholeRecord table.recordOf
+    table.isKind table.objectsFine table.emptyTable table.withObject
+    table.withThread table.withOp table.objectRecord table.threadRecord table.operationRecord table.oneRecord table.atEnd table.readFrom table.readTable
     table.opsOf answer.numbersOf effect.misuseUnless effect.noRoomUnless effect.answered effect.yesNo
     effect.mutexEffect effect.rwlockEffect effect.condvarEffect effect.notifyEffect effect.channelEffect effect.counted
     effect.arcEffect effect.touched effect.cellEffect effect.effect announce.isFree announce.actionOf

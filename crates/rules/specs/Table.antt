@@ -1,5 +1,5 @@
 -- Document 01, "The table, as bytes": kinds, bodies, limits, the first bad record and its refusal.
-use mathlib.Core.Bool.{Bool, true, false, _&&_, _||_}
+use mathlib.Core.Bool.{Bool, true, false, _&&_}
 use mathlib.Core.List.{List, [], _∷_}
 use Prim.Native.Nat.{ℕ, zero, suc, _+_, _-_, _*_}
 use lib.Dec.{eqb, ltb, leb}
@@ -19,6 +19,8 @@ use Rattle.rules.specs.declared.table.Call.the-variants.{Mutex, RwLock, 
 use Rattle.rules.specs.declared.table.Op.{Op}
 use Rattle.rules.specs.declared.table.Made.{Made}
 use Rattle.rules.specs.declared.table.Table.{Table}
+use Rattle.rules.specs.declared.table.Taken.the-variants.{Accepted, Refused}
+use Rattle.rules.specs.declared.table.TableRead.{TableRead}
 use Rattle.rules.specs.declared.table.Record.{Record}
 use Rattle.rules.specs.declared.table.Record.the-variants as rec
 use Rattle.rules.specs.declared.answer.Answer.{Answer}
@@ -68,37 +70,34 @@ isOperation k = leb 0x30 k && leb k 0x47
 unfoldable pub bodyLength : ℕ → ℕ
 bodyLength k =
     elim (eqb k 0x10)
-    [ true ↦ 1 | false ↦ elim (eqb k 0x13 || eqb k 0x39) [ true ↦ 2 | false ↦ elim (isOperation k) [ true ↦ 1 | false ↦ 0 ] ] ]
+    [ true ↦ 1 | false ↦ elim (eqb k 0x13) [ true ↦ 2 | false ↦ elim (eqb k 0x39) [ true ↦ 2 | false ↦ elim (isOperation k) [ true ↦ 1 | false ↦ 0 ] ] ] ]
 
--- "Flags are 0 or 1."
-unfoldable pub flagsFine : List ℕ → Bool
-flagsFine [] = true
-flagsFine (f ∷ fs) = leb f 1 && flagsFine fs
+-- "Flags are 0 or 1."; the second one of a Notify says spurious
+unfoldable pub objectOf : ℕ → ℕ → ℕ → Record
+objectOf n first second = elim (leb first 1 && leb second 1) [ true ↦ rec.Object (record { kind = getD kinds n kind.Nothing; spurious = eqb second 1 }) | false ↦ rec.Bad ]
 
--- the record of kind k with the body b, which is whole
-unfoldable pub wholeRecord : ℕ → List ℕ → Record
-wholeRecord k b =
+unfoldable pub operationOf : ℕ → ℕ → ℕ → Record
+operationOf n first second = rec.Operation (record { call = getD (calls second) n (Mutex mutex.AcquireLock); object = record { 0 = first } })
+
+-- the record of kind k whose body has these two bytes, 0 where it has none
+unfoldable pub wholeRecord : ℕ → ℕ → ℕ → Record
+wholeRecord k first second =
     elim (isObject k) [
-      | true ↦
-          elim (flagsFine b)
-          [ true ↦ rec.Object (record { kind = getD kinds (k - 0x10) kind.Nothing; spurious = eqb (getD b 1 0) 1 }) | false ↦ rec.Bad ]
-      | false ↦
-          elim (eqb k 0x20) [
-            | true ↦ rec.Thread
-            | false ↦
-                elim (isOperation k) [
-                  | true ↦ rec.Operation (record { call = getD (calls (getD b 1 0)) (k - 0x30) (Mutex mutex.AcquireLock); object = record { 0 = getD b 0 0 } })
-                  | false ↦ rec.Bad
-                ]
-          ]
+      | true ↦ objectOf (k - 0x10) first second
+      | false ↦ elim (eqb k 0x20) [ true ↦ rec.Thread | false ↦ elim (isOperation k) [ true ↦ operationOf (k - 0x30) first second | false ↦ rec.Bad ] ]
     ]
+
+-- byte i of a body of n bytes that stands before the bytes `rest`; 0 if it has none
+abbrev pub bodyByte : ℕ → List ℕ → ℕ → ℕ
+bodyByte n rest i = getD (take n rest) i 0
 
 -- the record that begins with the kind k, before the bytes `rest`; "unknown kind, body cut short, bad flag" are Bad
 unfoldable pub recordOf : ℕ → List ℕ → Record
-recordOf k rest = elim (leb (bodyLength k) (length rest)) [ true ↦ wholeRecord k (take (bodyLength k) rest) | false ↦ rec.Bad ]
+recordOf k rest =
+    elim (leb (bodyLength k) (length rest)) [ true ↦ wholeRecord k (bodyByte (bodyLength k) rest 0) (bodyByte (bodyLength k) rest 1) | false ↦ rec.Bad ]
 
 -- the kind of object that an operation is on
-unfoldable pub kindOf : Call → Kind
+abbrev pub kindOf : Call → Kind
 kindOf (Mutex c) = kind.Mutex
 kindOf (RwLock c) = kind.RwLock
 kindOf (Condvar c) = kind.Condvar
@@ -107,7 +106,7 @@ kindOf (Channel c) = kind.Channel
 kindOf (Arc c) = kind.Arc
 kindOf (Cell c) = kind.Cell
 
-unfoldable pub kindNumber : Kind → ℕ
+abbrev pub kindNumber : Kind → ℕ
 kindNumber kind.Mutex = 0
 kindNumber kind.RwLock = 1
 kindNumber kind.Condvar = 2
@@ -118,23 +117,23 @@ kindNumber kind.Cell = 6
 kindNumber kind.Nothing = 7
 
 -- the object is there and of the kind
-unfoldable pub isKind : Table → ObjectId → Kind → Bool
-isKind t o k = eqb (kindNumber (getD (t .objects) (o .0) noObject .kind)) (kindNumber k)
+unfoldable pub isKind : List Made → ObjectId → Kind → Bool
+isKind ms o k = eqb (kindNumber (getD ms (o .0) noObject .kind)) (kindNumber k)
+
+abbrev pub mutexFine : List Made → Call → Bool
+mutexFine ms (Mutex c) = true
+mutexFine ms (RwLock c) = true
+mutexFine ms (Condvar (condvar.Wait m)) = isKind ms m kind.Mutex
+mutexFine ms (Condvar condvar.NotifyOne) = true
+mutexFine ms (Condvar condvar.NotifyAll) = true
+mutexFine ms (Notify c) = true
+mutexFine ms (Channel c) = true
+mutexFine ms (Arc c) = true
+mutexFine ms (Cell c) = true
 
 -- "object absent or of the wrong kind (for 39: condvar checked before mutex)"
-unfoldable pub objectsFine : Table → Op → Bool
-objectsFine t op = isKind t (op .object) (kindOf (op .call)) && mutexFine (op .call)
-  where
-    mutexFine : Call → Bool
-    mutexFine (Mutex c) = true
-    mutexFine (RwLock c) = true
-    mutexFine (Condvar (condvar.Wait m)) = isKind t m kind.Mutex
-    mutexFine (Condvar condvar.NotifyOne) = true
-    mutexFine (Condvar condvar.NotifyAll) = true
-    mutexFine (Notify c) = true
-    mutexFine (Channel c) = true
-    mutexFine (Arc c) = true
-    mutexFine (Cell c) = true
+unfoldable pub objectsFine : List Made → Op → Bool
+objectsFine ms op = isKind ms (op .object) (kindOf (op .call)) && mutexFine ms (op .call)
 
 -- a table with no record
 abbrev pub noOp : Op
@@ -156,8 +155,11 @@ withObject t m = record {
 unfoldable pub withThread : Table → Table
 withThread t = record { objects = t .objects; «object_count» = t .«object_count»; ops = t .ops; counts = t .counts; «thread_count» = t .«thread_count» + 1 }
 
+abbrev pub lastOf : List ℕ → ℕ → ℕ
+lastOf counts n = getD counts (n - 1) 0
+
 abbrev pub lastCount : Table → ℕ
-lastCount t = getD (t .counts) (t .«thread_count» - 1) 0
+lastCount t = lastOf (t .counts) (t .«thread_count»)
 
 unfoldable pub withOp : Table → Op → Table
 withOp t op = record {
@@ -174,21 +176,21 @@ pub data Read : Type 0 where
   accepted : Table → Read
 
 -- the first of the tests 20, 21, 22 that fails, at the place of the record's first byte; the rest is read with `go`
-abbrev pub objectRecord : ℕ → Table → Made → (Table → Read) → Read
+unfoldable pub objectRecord : ℕ → Table → Made → (Table → Read) → Read
 objectRecord at t m go =
     elim (eqb (t .«thread_count») 0)
     [ true ↦ elim (ltb (t .«object_count») 16) [ true ↦ go (withObject t m) | false ↦ refused (TooMany at) ] | false ↦ refused (BadRecord at) ]
 
-abbrev pub threadRecord : ℕ → Table → (Table → Read) → Read
+unfoldable pub threadRecord : ℕ → Table → (Table → Read) → Read
 threadRecord at t go = elim (ltb (t .«thread_count») 6) [ true ↦ go (withThread t) | false ↦ refused (TooMany at) ]
 
-abbrev pub operationRecord : ℕ → Table → Op → (Table → Read) → Read
+unfoldable pub operationRecord : ℕ → Table → Op → (Table → Read) → Read
 operationRecord at t op go =
     elim (eqb (t .«thread_count») 0) [
       | true ↦ refused (BadRecord at)
       | false ↦
           elim (ltb (lastCount t) 32)
-          [ true ↦ elim (objectsFine t op) [ true ↦ go (withOp t op) | false ↦ refused (BadObject at) ] | false ↦ refused (TooMany at) ]
+          [ true ↦ elim (objectsFine (t .objects) op) [ true ↦ go (withOp t op) | false ↦ refused (BadObject at) ] | false ↦ refused (TooMany at) ]
     ]
 
 unfoldable pub oneRecord : ℕ → Table → Record → (Table → Read) → Read
@@ -209,6 +211,11 @@ readFrom (suc n) at (k ∷ bs) t = oneRecord at t (recordOf k bs) (readFrom n (a
 
 unfoldable pub readTable : List ℕ → Read
 readTable bs = readFrom (length bs) 0 bs emptyTable
+
+-- the same as the code hands it back
+abbrev pub readOf : Read → TableRead
+readOf (refused a) = record { taken = Refused a; table = emptyTable }
+readOf (accepted t) = record { taken = Accepted; table = t }
 
 -- the operations of a thread
 unfoldable pub opsOf : Table → ℕ → List Op

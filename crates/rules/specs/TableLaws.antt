@@ -1,18 +1,22 @@
 -- An accepted table is within document 01's limits.
-use mathlib.Core.Path.{_≡_, refl}
-use mathlib.Core.Bool.{Bool, true, false}
+use mathlib.Core.Path.{_≡_, refl, sym, _∙_, ap, fun-ext}
+use mathlib.Core.Bool.{Bool, true, false, _&&_, false≢true}
 use mathlib.Core.List.{List, [], _∷_}
-use Prim.Native.Nat.{ℕ, zero, suc, _+_, _≤_}
+use Prim.Native.Nat.{ℕ, zero, suc, _+_, _≤_, _<_}
+use native.Mathlib.Numerals.{add-one}
 use native.Mathlib.Omega.{arith}
-use lib.Dec.{eqb, ltb}
-use lib.ListN.{length, drop}
-use borrow.Author.Tests.{ltb-true}
+use lib.Dec.{eqb, ltb, leb}
+use lib.ListN.{length, getD, drop, length-drop, drop-of-length-le}
+use lib.Seq.{drop-cons, drop-drop}
+use borrow.Author.Tests.{ltb-true, leb-true}
 use Rattle.rules.specs.declared.table.Table.{Table}
+use Rattle.rules.specs.declared.table.Taken.the-variants.{Accepted, Refused}
+use Rattle.rules.specs.declared.table.TableRead.{TableRead}
 use Rattle.rules.specs.declared.table.Record.{Record}
 use Rattle.rules.specs.declared.table.Record.the-variants as rec
 use Rattle.rules.specs.declared.answer.Answer.{Answer}
 use Rattle.rules.specs.declared.answer.Answer.the-variants.{BadRecord, TooMany, BadObject}
-use Rattle.rules.specs.Table.{Read, refused, accepted, lastCount, objectsFine, withObject, withThread, withOp, oneRecord, atEnd, recordOf, bodyLength, emptyTable, readFrom, readTable}
+use Rattle.rules.specs.Table.{readOf, objectRecord, threadRecord, operationRecord, isObject, isOperation, Read, refused, accepted, lastCount, objectsFine, withObject, withThread, withOp, oneRecord, atEnd, recordOf, bodyLength, emptyTable, readFrom, readTable}
 
 -- "At most 16 objects, 1 to 6 threads"
 pub record Within (t : Table) : Type 0 where
@@ -32,7 +36,7 @@ never : (a : Answer) → Ends (refused a)
 never a table e = let q : _≡_ {A = ℕ} 0 1 = cc in absurd (omega arith)
 
 one-within : (at : ℕ) (t : Table) (r : Record) (go : Table → Read) → Within t → ((u : Table) → Within u → Ends (go u)) → Ends (oneRecord at t r go)
-unfolding oneRecord withObject withThread withOp
+unfolding oneRecord objectRecord threadRecord operationRecord withObject withThread withOp
 one-within at t (rec.Object m) go w next =
     by-test Ends (eqb (t .«thread_count») 0)
     (λ z. by-test Ends (ltb (t .«object_count») 16) (λ l. next _ (record { objects = omega (arith, ltb-true (t .«object_count») 16 l); threads = w .threads })) (λ l. never (TooMany at)))
@@ -43,7 +47,7 @@ one-within at t (rec.Operation op) go w next =
     by-test Ends (eqb (t .«thread_count») 0) (λ z. never (BadRecord at))
     (λ z.
     by-test Ends (ltb (lastCount t) 32)
-    (λ l. by-test Ends (objectsFine t op) (λ f. next _ (record { objects = w .objects; threads = w .threads })) (λ f. never (BadObject at)))
+    (λ l. by-test Ends (objectsFine (t .objects) op) (λ f. next _ (record { objects = w .objects; threads = w .threads })) (λ f. never (BadObject at)))
     (λ l. never (TooMany at)))
 one-within at t rec.Bad go w next = never (BadRecord at)
 
@@ -60,3 +64,133 @@ from-within (suc n) at (k ∷ bs) t w = one-within at t (recordOf k bs) _ w (λ 
 pub read-within : (bs : List ℕ) (table : Table) → readTable bs ≡ accepted table → Within table
 unfolding readTable emptyTable
 read-within bs = from-within (length bs) 0 bs emptyTable (record { objects = omega arith; threads = omega arith })
+
+-- the ranges of kinds
+pub object-low : (k : ℕ) → isObject k ≡ true → 0x10 ≤ k
+unfolding isObject
+object-low k e = go (leb 0x10 k) refl e
+  where
+    go : (b : Bool) → leb 0x10 k ≡ b → (b && leb k 0x16) ≡ true → 0x10 ≤ k
+    go true t q = leb-true 0x10 k t
+    go false t q = absurd (false≢true q)
+
+pub operation-low : (k : ℕ) → isOperation k ≡ true → 0x30 ≤ k
+unfolding isOperation
+operation-low k e = go (leb 0x30 k) refl e
+  where
+    go : (b : Bool) → leb 0x30 k ≡ b → (b && leb k 0x47) ≡ true → 0x30 ≤ k
+    go true t q = leb-true 0x30 k t
+    go false t q = absurd (false≢true q)
+
+-- a record is judged first, and the rest is read from the table that it leaves
+abbrev pub andThen : Read → (Table → Read) → Read
+andThen (refused a) go = refused a
+andThen (accepted t) go = go t
+
+pub one-then : (at : ℕ) (t : Table) (r : Record) (go : Table → Read) → oneRecord at t r go ≡ andThen (oneRecord at t r accepted) go
+unfolding oneRecord objectRecord threadRecord operationRecord
+one-then at t (rec.Object m) go = choose (eqb (t .«thread_count») 0) (ltb (t .«object_count») 16)
+  where
+    choose : (b c : Bool)
+        → elim b [ true ↦ elim c [ true ↦ go (withObject t m) | false ↦ refused (TooMany at) ] | false ↦ refused (BadRecord at) ]
+        ≡ andThen (elim b [ true ↦ elim c [ true ↦ accepted (withObject t m) | false ↦ refused (TooMany at) ] | false ↦ refused (BadRecord at) ]) go
+    choose true true = refl
+    choose true false = refl
+    choose false c = refl
+one-then at t rec.Thread go = choose (ltb (t .«thread_count») 6)
+  where
+    choose : (b : Bool)
+        → elim b [ true ↦ go (withThread t) | false ↦ refused (TooMany at) ] ≡ andThen (elim b [ true ↦ accepted (withThread t) | false ↦ refused (TooMany at) ]) go
+    choose true = refl
+    choose false = refl
+one-then at t (rec.Operation op) go = choose (eqb (t .«thread_count») 0) (ltb (lastCount t) 32) (objectsFine (t .objects) op)
+  where
+    choose : (b c d : Bool)
+        → elim b [ true ↦ refused (BadRecord at) | false ↦ elim c [ true ↦ elim d [ true ↦ go (withOp t op) | false ↦ refused (BadObject at) ] | false ↦ refused (TooMany at) ] ]
+        ≡ andThen (elim b [ true ↦ refused (BadRecord at) | false ↦ elim c [ true ↦ elim d [ true ↦ accepted (withOp t op) | false ↦ refused (BadObject at) ] | false ↦ refused (TooMany at) ] ]) go
+    choose true c d = refl
+    choose false true true = refl
+    choose false true false = refl
+    choose false false d = refl
+one-then at t rec.Bad go = refl
+
+-- more than enough is as good as enough: the number only has to be at least the bytes left
+pub enough : (n m at : ℕ) (bs : List ℕ) (t : Table) → length bs ≤ n → length bs ≤ m → readFrom n at bs t ≡ readFrom m at bs t
+unfolding readFrom
+enough zero zero at bs t h k = refl
+enough zero (suc m) at [] t h k = refl
+enough zero (suc m) at (b ∷ bs) t h k = absurd (omega arith)
+enough (suc n) zero at [] t h k = refl
+enough (suc n) zero at (b ∷ bs) t h k = absurd (omega arith)
+enough (suc n) (suc m) at [] t h k = refl
+enough (suc n) (suc m) at (b ∷ bs) t h k =
+    let l = length-drop (bodyLength b) bs in
+    ap (oneRecord at t (recordOf b bs)) (fun-ext (λ u. enough n m (at + 1 + bodyLength b) (drop (bodyLength b) bs) u (omega arith) (omega arith)))
+
+-- the reader's loop: what the whole table comes to is what the rest from `at` on comes to
+abbrev pub Reading : List ℕ → ℕ → Table → Type 0
+Reading bs at t = readTable bs ≡ readFrom (length bs) at (drop at bs) t
+
+pub reading-start : (bs : List ℕ) → Reading bs 0 emptyTable
+unfolding readTable
+reading-start bs = refl
+
+module _ (bs : List ℕ) (at : ℕ) (t : Table) (r : Reading bs at t) where
+  pub reading-end : length bs ≤ at → readTable bs ≡ atEnd at t
+  unfolding readFrom
+  reading-end h = r ∙ ap (λ (l : List ℕ). readFrom (length bs) at l t) (drop-of-length-le bs h) ∙ none (length bs)
+    where
+      none : (n : ℕ) → readFrom n at [] t ≡ atEnd at t
+      none zero = refl
+      none (suc n) = refl
+
+  -- the record that begins at `at`, with what it leaves
+  abbrev here : Read
+  here = oneRecord at t (recordOf (getD bs at 0) (drop (at + 1) bs)) accepted
+
+  abbrev past : ℕ
+  past = at + 1 + bodyLength (getD bs at 0)
+
+  reading-one : at < length bs → readTable bs ≡ andThen here (readFrom (length bs) past (drop past bs))
+  unfolding readFrom
+  reading-one h = r ∙ ap (λ (l : List ℕ). readFrom (length bs) at l t) (drop-cons bs at 0 h ∙ rw (← add-one at)) ∙ first (length bs) refl
+    where
+      k : ℕ
+      k = getD bs at 0
+
+      rest : List ℕ
+      rest = drop (at + 1) bs
+
+      first : (n : ℕ) → length bs ≡ n → readFrom n at (k ∷ rest) t ≡ andThen here (readFrom (length bs) past (drop past bs))
+      first zero e = absurd (omega arith)
+      first (suc n) e =
+          let a = length-drop (at + 1) bs in
+          let b = length-drop (bodyLength k) rest in
+          one-then at t (recordOf k rest) _
+          ∙ ap (andThen here) (fun-ext (λ u. enough n (length bs) past (drop (bodyLength k) rest) u (omega arith) (omega arith)))
+          ∙ ap (λ (l : List ℕ). andThen here (readFrom (length bs) past l)) (drop-drop (bodyLength k) (at + 1) bs)
+
+  -- as the code sees it: a record that is refused ends the reading, and any other leaves the table from which the rest is read
+  pub reading-stops : at < length bs → (read : TableRead) (a : Answer) → read ≡ readOf here → read .taken ≡ Refused a → read ≡ readOf (readTable bs)
+  reading-stops h read a e t = go here refl
+    where
+      go : (x : Read) → here ≡ x → read ≡ readOf (readTable bs)
+      go (refused b) q = e ∙ ap readOf (q ∙ sym (reading-one h ∙ ap (λ (y : Read). andThen y (readFrom (length bs) past (drop past bs))) q))
+      go (accepted u) q = let p : read ≡ readOf (accepted u) = e ∙ ap readOf q in let z : _≡_ {A = ℕ} 0 1 = cc in absurd (omega arith)
+
+  pub reading-goes : at < length bs → (read : TableRead) → read ≡ readOf here → read .taken ≡ Accepted → Reading bs past (read .table)
+  reading-goes h read e t = go here refl
+    where
+      go : (x : Read) → here ≡ x → Reading bs past (read .table)
+      go (refused b) q = let p : read ≡ readOf (refused b) = e ∙ ap readOf q in let z : _≡_ {A = ℕ} 0 1 = cc in absurd (omega arith)
+      go (accepted u) q =
+          let p : read ≡ readOf (accepted u) = e ∙ ap readOf q in
+          let same : read .table ≡ u = ap (λ (y : TableRead). y .table) p in
+          rw same (reading-one h ∙ ap (λ (y : Read). andThen y (readFrom (length bs) past (drop past bs))) q)
+
+-- a body has at most two bytes
+pub body-small : (k : ℕ) → bodyLength k ≤ 2
+unfolding bodyLength
+body-small k =
+    by-test (λ (n : ℕ). n ≤ 2) (eqb k 0x10) (λ e. omega arith)
+    (λ e. by-test (λ (n : ℕ). n ≤ 2) (eqb k 0x13) (λ f. omega arith) (λ f. by-test (λ (n : ℕ). n ≤ 2) (eqb k 0x39) (λ g. omega arith) (λ g. by-test (λ (n : ℕ). n ≤ 2) (isOperation k) (λ o. omega arith) (λ o. omega arith))))

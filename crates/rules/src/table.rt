@@ -1,4 +1,5 @@
 // A table: its objects, and each thread's operations.
+use crate::answer::Answer;
 use crate::arc;
 use crate::cell;
 use crate::condvar;
@@ -46,4 +47,15 @@ pub enum Record {
     Thread,
     Operation(Op),
     Bad,
+}
+
+// What reading a table comes to. A refused one hands back the empty table.
+pub enum Taken {
+    Accepted,
+    Refused(Answer),
+}
+
+pub struct TableRead {
+    pub taken: Taken,
+    pub table: Table,
 }

@@ -1,0 +1,2 @@
+// The judge: a table is read, decisions are taken one at a time, a list is judged, and the sheet is written.
+pub mod table;
