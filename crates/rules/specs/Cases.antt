@@ -72,12 +72,10 @@ unfolding ground.loaded
     table.opsOf answer.numbersOf effect.misuseUnless effect.noRoomUnless effect.answered effect.yesNo
     effect.mutexEffect effect.rwlockEffect effect.condvarEffect effect.notifyEffect effect.channelEffect effect.counted
     effect.arcEffect effect.touched effect.cellEffect effect.effect announce.isFree announce.actionOf
-    announce.isDisabled turn.allEnded turn.anyRunnable turn.leakCheck turn.announcedObject turn.stuck
-    turn.afterTurn turn.announce turn.retake turn.dependence turn.depend turn.advance
-    turn.unannounced turn.endingOf turn.perform announce.asks turn.goOn turn.park
-    turn.waiting turn.thereafter turn.operate turn.mutexOf turn.turnOf turn.opsLeft
-    turn.begin turn.spurious turn.question turn.decideAt turn.decide turn.startThread
-    turn.start sheet.stateByte sheet.phaseByte sheet.threadBytes sheet.holderByte sheet.mutexBytes
+    announce.isDisabled
+    announce.asks
+    turn.allEnded turn.anyRunnable turn.leakCheck turn.stuck turn.afterStep turn.announceOp turn.retake turn.dependence turn.operate turn.advance turn.ended turn.park turn.wait turn.endingOf turn.goOn turn.thereafter turn.operation turn.turnOf turn.begin turn.spurious turn.question turn.decideAt turn.decide turn.startThread turn.start
+    sheet.stateByte sheet.phaseByte sheet.threadBytes sheet.holderByte sheet.mutexBytes
     sheet.formByte sheet.whoByte sheet.rwlockBytes sheet.condvarBytes sheet.notifyBytes sheet.channelBytes
     sheet.arcBytes sheet.cellBytes sheet.objectBytes sheet.objectsBytes sheet.sheetOf sheet.recordLength
     sheet.objectsLength sheet.sheetLength judge.outcomeOf judge.step judge.shown judge.judgeTable

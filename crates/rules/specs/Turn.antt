@@ -29,7 +29,9 @@ use Rattle.rules.specs.declared.answer.Answer.the-variants as answer
 use Rattle.rules.specs.declared.answer.Spot.{Spot}
 use Rattle.rules.specs.declared.world.Asked.{Asked}
 use Rattle.rules.specs.declared.world.Asked.the-variants as asked
+use Rattle.rules.specs.declared.world.Effect.{Effect}
 use Rattle.rules.specs.declared.world.World.{World}
+use Rattle.rules.specs.declared.world.Step.{Step}
 use Rattle.rules.specs.declared.world.Step.the-variants.{Refused, Done, Wants}
 use Rattle.rules.specs.declared.world.Decided.{Decided}
 use Rattle.rules.specs.Ground.{withState, withPhase, withPosition, withDependence, absent, threadAt, putThread, setRunnable, setBlocked, isRunnable, hasUnpark, isEnded}
@@ -55,9 +57,6 @@ withAsked w a = record { threads = w .threads; objects = w .objects; turn = w .t
 
 abbrev pub threadIn : World → ThreadId → Thread
 threadIn w t = threadAt (w .threads) t
-
-abbrev pub putIn : World → ThreadId → Thread → World
-putIn w t x = withThreads w (putThread (w .threads) t x)
 
 abbrev pub entryIn : World → ObjectId → Entry
 entryIn w o = entryAt (w .objects) o
@@ -86,7 +85,7 @@ leakCheck k [] = answer.Clean
 leakCheck k (e ∷ es) = elim (leaks (e .kind) e) [ true ↦ answer.Leak (record { 0 = k }) | false ↦ leakCheck (suc k) es ]
 
 -- "its announced object or 255"
-unfoldable pub announcedObject : Phase → ObjectId
+abbrev pub announcedObject : Phase → ObjectId
 announcedObject Nothing = record { 0 = 255 }
 announcedObject (Announced p) = p .obj
 announcedObject Parked = record { 0 = 255 }
@@ -100,41 +99,60 @@ stuck k (t ∷ ts) =
     [ true ↦ stuck (suc k) ts | false ↦ record { thread = record { 0 = k }; position = t .position; object = announcedObject (t .phase) } ]
 
 -- "else nobody runnable means deadlock"
-unfoldable pub afterTurn : World → Decided
-afterTurn w =
-    elim (allEnded (w .threads))
-    [ true ↦ done (leakCheck 0 (w .objects)) w | false ↦ elim (anyRunnable (w .threads)) [ true ↦ wants w | false ↦ done (answer.Deadlock (stuck 0 (w .threads))) w ] ]
+unfoldable pub afterStep : List Thread → List Entry → Step
+afterStep ts es =
+    elim (allEnded ts) [ true ↦ Done (leakCheck 0 es) | false ↦ elim (anyRunnable ts) [ true ↦ Wants | false ↦ Done (answer.Deadlock (stuck 0 ts)) ] ]
 
--- announcing an operation, and retaking a mutex
-unfoldable pub announce : ThreadId → Op → World → World
-announce t op w =
-    putIn w t (announced (Announced (record { obj = op .object; action = actionOf (op .call) })) (isDisabled (op .call) (entryIn w (op .object))) (threadIn w t))
+abbrev pub afterTurn : World → Decided
+afterTurn w = record { step = afterStep (w .threads) (w .objects); world = w }
 
-unfoldable pub retake : ThreadId → ObjectId → World → World
-retake t m w = putIn w t (announced (Retaking (record { obj = m; action = action.Opaque })) (mutex.isLocked (entryIn w m .mutex .lock)) (threadIn w t))
+-- announcing an operation on its object, and retaking a mutex
+unfoldable pub announceOp : ThreadId → Op → Entry → List Thread → List Thread
+announceOp t op e ts =
+    putThread ts t (announced (Announced (record { obj = op .object; action = actionOf (op .call) })) (isDisabled (op .call) e) (threadAt ts t))
+
+unfoldable pub retake : ThreadId → ObjectId → Entry → List Thread → List Thread
+retake t m e ts = putThread ts t (announced (Retaking (record { obj = m; action = action.Opaque })) (mutex.isLocked (e .mutex .lock)) (threadAt ts t))
 
 -- "its dependence clock joins that of the object's last dependent access, its own dependence count rises by one"
 unfoldable pub dependence : ThreadId → Action → Entry → Thread → Clock
 dependence t a e x = incOf (joinOf (x .dependence) (lastDependentAccess a e .version)) t
 
--- "the result is recorded with the turn number as that object's last access"
-unfoldable pub depend : ThreadId → Op → World → World
-depend t op w =
+-- "the result is recorded with the turn number as that object's last access, then the effect happens. .. Once in effect an operation is no
+-- longer announced"
+unfoldable pub operate : ThreadId → Op → ℕ → Entry → List Thread → Effect
+operate t op turn e ts =
     let a = actionOf (op .call) in
-    let e = entryIn w (op .object) in
-    let v = dependence t a e (threadIn w t) in
-    withObjects (putIn w t (withDependence (threadIn w t) v)) (putEntry (w .objects) (op .object) (setLastAccess a (record { «path_id» = w .turn; version = v }) e))
+    let v = dependence t a e (threadAt ts t) in
+    effect (op .call) t (op .object) (setLastAccess a (record { «path_id» = turn; version = v }) e) (putThread ts t (withPhase (withDependence (threadAt ts t) v) Nothing))
+
+-- one more operation is done
+unfoldable pub advance : ThreadId → List Thread → List Thread
+advance t ts = putThread ts t (withPosition (threadAt ts t) (risen 255 (threadAt ts t .position)))
+
+-- no operation is left
+unfoldable pub ended : ThreadId → List Thread → List Thread
+ended t ts = putThread ts t (withPhase (withState (threadAt ts t) state.Ended) Nothing)
+
+-- "parks (a stored unpark is used up and the thread does not stop), then announces acquire_lock"
+unfoldable pub park : ThreadId → ObjectId → Entry → List Thread → List Thread
+park t m e ts =
+    elim (hasUnpark (threadAt ts t .state))
+    [ true ↦ retake t m e (putThread ts t (setRunnable (threadAt ts t))) | false ↦ putThread ts t (withPhase (setBlocked (threadAt ts t)) Parked) ]
+
+-- "wait queues, releases the mutex, parks": what it does to the mutex and the threads once it is queued
+unfoldable pub wait : ThreadId → ObjectId → Entry → List Thread → Effect
+wait t m e ts =
+    let r = mutex.releaseLock t m (e .mutex) ts in
+    record { ending = ending.Fine; entry = putMutex e (r .state); threads = park t m (putMutex e (r .state)) (r .threads) }
+
+-- a world after an effect on an object
+abbrev pub settled : World → ObjectId → Effect → World
+settled w o r = withObjects (withThreads w (r .threads)) (putEntry (w .objects) o (r .entry))
 
 -- the place of a failing step: the thread, the operations it has done, the object
 abbrev pub spot : ThreadId → Op → World → Spot
 spot t op w = record { thread = t; position = threadIn w t .position; object = op .object }
-
--- one more operation is done, and none is announced
-unfoldable pub advance : ThreadId → World → World
-advance t w = putIn w t (withPosition (threadIn w t) (risen 255 (threadIn w t .position)))
-
-unfoldable pub unannounced : ThreadId → World → World
-unannounced t w = putIn w t (withPhase (threadIn w t) Nothing)
 
 -- a step's ending: a failing one is a verdict that shows the world `shown`, before the step
 unfoldable pub endingOf : Ending → Spot → World → Decided → Decided
@@ -143,93 +161,80 @@ endingOf ending.Misuse s shown next = done (answer.Misuse s) shown
 endingOf ending.NoRoom s shown next = done (answer.NoRoom s) shown
 endingOf (ending.Race other) s shown next = done (answer.Race s other) shown
 
--- the operation's effect in a world, and `go` from there
-unfoldable pub perform : ThreadId → Op → World → World → (World → Decided) → Decided
-perform t op shown w go =
-    let r = effect (op .call) t (op .object) (entryIn w (op .object)) (w .threads) in
-    let next = go (withObjects (withThreads w (r .threads)) (putEntry (w .objects) (op .object) (r .entry))) in
-    endingOf (r .ending) (spot t op shown) shown next
-
 -- "The thread goes on through operations that need no announcement .. and stops when it announces the next, .. or ends."
 unfoldable pub goOn : ThreadId → List Op → World → Decided
-goOn t [] w = afterTurn (putIn w t (withPhase (withState (threadIn w t) state.Ended) Nothing))
+goOn t [] w = afterTurn (withThreads w (ended t (w .threads)))
 goOn t (op ∷ ops) w =
+    let e = entryIn w (op .object) in
+    let r = effect (op .call) t (op .object) e (w .threads) in
+    let next = goOn t ops (withThreads (settled w (op .object) r) (advance t (r .threads))) in
     elim (isFree (op .call)) [
-      | true ↦ perform t op w w (λ next. goOn t ops (advance t next))
-      | false ↦ elim (asks (op .call) (entryIn w (op .object))) [ true ↦ wants (withAsked w (asked.Thread t)) | false ↦ afterTurn (announce t op w) ]
+      | true ↦ endingOf (r .ending) (spot t op w) w next
+      | false ↦ elim (asks (op .call) e) [ true ↦ wants (withAsked w (asked.Thread t)) | false ↦ afterTurn (withThreads w (announceOp t op e (w .threads))) ]
     ]
 
--- "wait queues, releases the mutex, parks (a stored unpark is used up and the thread does not stop), then announces acquire_lock"
-unfoldable pub park : ThreadId → ObjectId → World → World
-park t m w =
-    elim (hasUnpark (threadIn w t .state))
-    [ true ↦ retake t m (putIn w t (setRunnable (threadIn w t))) | false ↦ putIn w t (withPhase (setBlocked (threadIn w t)) Parked) ]
-
-unfoldable pub waiting : ThreadId → ObjectId → World → Decided
-waiting t m w =
-    let r = mutex.releaseLock t m (entryIn w m .mutex) (w .threads) in
-    let next = withObjects (withThreads w (r .threads)) (putEntry (w .objects) m (putMutex (entryIn w m) (r .state))) in
-    afterTurn (park t m next)
-
--- what follows the effect of an announced operation
+-- what follows the effect of an announced operation: a wait goes on to its mutex and its turn ends
 unfoldable pub thereafter : Call → ThreadId → List Op → World → Decided
-thereafter (Mutex c) t ops w = goOn t ops (advance t w)
-thereafter (RwLock c) t ops w = goOn t ops (advance t w)
-thereafter (Condvar (condvar-call.Wait m)) t ops w = waiting t m w
-thereafter (Condvar condvar-call.NotifyOne) t ops w = goOn t ops (advance t w)
-thereafter (Condvar condvar-call.NotifyAll) t ops w = goOn t ops (advance t w)
-thereafter (Notify c) t ops w = goOn t ops (advance t w)
-thereafter (Channel c) t ops w = goOn t ops (advance t w)
-thereafter (Arc c) t ops w = goOn t ops (advance t w)
-thereafter (Cell c) t ops w = goOn t ops (advance t w)
+thereafter (Mutex c) t ops w = goOn t ops (withThreads w (advance t (w .threads)))
+thereafter (RwLock c) t ops w = goOn t ops (withThreads w (advance t (w .threads)))
+thereafter (Condvar (condvar-call.Wait m)) t ops w = afterTurn (settled w m (wait t m (entryIn w m) (w .threads)))
+thereafter (Condvar condvar-call.NotifyOne) t ops w = goOn t ops (withThreads w (advance t (w .threads)))
+thereafter (Condvar condvar-call.NotifyAll) t ops w = goOn t ops (withThreads w (advance t (w .threads)))
+thereafter (Notify c) t ops w = goOn t ops (withThreads w (advance t (w .threads)))
+thereafter (Channel c) t ops w = goOn t ops (withThreads w (advance t (w .threads)))
+thereafter (Arc c) t ops w = goOn t ops (withThreads w (advance t (w .threads)))
+thereafter (Cell c) t ops w = goOn t ops (withThreads w (advance t (w .threads)))
 
--- "If that thread has announced an operation: its dependence .., then the effect happens."
-unfoldable pub operate : ThreadId → Op → List Op → World → World → Decided
-operate t op ops shown w = perform t op shown (unannounced t (depend t op w)) (thereafter (op .call) t ops)
+-- "If that thread has announced an operation": its effect, and what follows
+unfoldable pub operation : ThreadId → Op → List Op → World → Decided
+operation t op ops w =
+    let n = risen 65535 (w .turn) in
+    let r = operate t op n (entryIn w (op .object)) (w .threads) in
+    let next = thereafter (op .call) t ops (settled (withTurn w n) (op .object) r) in
+    endingOf (r .ending) (spot t op w) w next
 
 -- the mutex of a condvar wait
-unfoldable pub mutexOf : Op → ObjectId
-mutexOf op = ofCall (op .call)
-  where
-    ofCall : Call → ObjectId
-    ofCall (Mutex c) = op .object
-    ofCall (RwLock c) = op .object
-    ofCall (Condvar (condvar-call.Wait m)) = m
-    ofCall (Condvar condvar-call.NotifyOne) = op .object
-    ofCall (Condvar condvar-call.NotifyAll) = op .object
-    ofCall (Notify c) = op .object
-    ofCall (Channel c) = op .object
-    ofCall (Arc c) = op .object
-    ofCall (Cell c) = op .object
+abbrev pub mutexOf : Call → ObjectId
+mutexOf (Mutex c) = record { 0 = 255 }
+mutexOf (RwLock c) = record { 0 = 255 }
+mutexOf (Condvar (condvar-call.Wait m)) = m
+mutexOf (Condvar condvar-call.NotifyOne) = record { 0 = 255 }
+mutexOf (Condvar condvar-call.NotifyAll) = record { 0 = 255 }
+mutexOf (Notify c) = record { 0 = 255 }
+mutexOf (Channel c) = record { 0 = 255 }
+mutexOf (Arc c) = record { 0 = 255 }
+mutexOf (Cell c) = record { 0 = 255 }
 
 -- the turn of a thread, by its phase; `ops` are its operations that are not done
-unfoldable pub turnOf : Phase → ThreadId → List Op → World → World → Decided
-turnOf Nothing t ops shown w = goOn t ops w
-turnOf (Announced p) t ops shown w = operate t (getD ops 0 noOp) (drop 1 ops) shown w
-turnOf Parked t ops shown w = afterTurn (retake t (mutexOf (getD ops 0 noOp)) w)
-turnOf (Retaking p) t ops shown w = operate t (record { call = Mutex mutex-call.AcquireLock; object = p .obj }) (drop 1 ops) shown w
+unfoldable pub turnOf : Phase → ThreadId → List Op → World → Decided
+turnOf Nothing t ops w = goOn t ops (withTurn w (risen 65535 (w .turn)))
+turnOf (Announced p) t ops w = operation t (getD ops 0 noOp) (drop 1 ops) w
+turnOf Parked t ops w =
+    let m = mutexOf (getD ops 0 noOp .call) in
+    afterTurn (withThreads (withTurn w (risen 65535 (w .turn))) (retake t m (entryIn w m) (w .threads)))
+turnOf (Retaking p) t ops w = operation t (record { call = Mutex mutex-call.AcquireLock; object = p .obj }) (drop 1 ops) w
 
 -- the operations of thread t that are not done in a world
-unfoldable pub opsLeft : Table → World → ThreadId → List Op
+abbrev pub opsLeft : Table → World → ThreadId → List Op
 opsLeft table w t = drop (threadIn w t .position) (opsOf table (t .0))
 
 -- "A turn begins with a decision naming a runnable thread, else 23."
 unfoldable pub begin : Table → World → ThreadId → Decided
-begin table w t =
-    elim (isRunnable (threadIn w t .state))
-    [ true ↦ turnOf (threadIn w t .phase) t (opsLeft table w t) w (withTurn w (risen 65535 (w .turn))) | false ↦ refused w ]
+begin table w t = elim (isRunnable (threadIn w t .state)) [ true ↦ turnOf (threadIn w t .phase) t (opsLeft table w t) w | false ↦ refused w ]
 
 -- "On 1, did_spur is set, the wait is done, the thread stands runnable with no stored unpark and the turn ends; notified is untouched."
 unfoldable pub spurious : ThreadId → Op → World → World
 spurious t op w =
-    withObjects (advance t (putIn w t (setRunnable (threadIn w t)))) (putEntry (w .objects) (op .object) (putNotify (entryIn w (op .object)) (notify.spur (entryIn w (op .object) .notify))))
+    let e = entryIn w (op .object) in
+    withObjects (withThreads w (advance t (putThread (w .threads) t (setRunnable (threadIn w t))))) (putEntry (w .objects) (op .object) (putNotify e (notify.spur (e .notify))))
 
 -- "first takes a decision, 0 or 1 (else 23)"
 unfoldable pub question : ThreadId → Op → ℕ → World → Decided
 question t op d w =
+    let v = withAsked w asked.Nobody in
     elim (eqb d 0) [
-      | true ↦ afterTurn (announce t op (withAsked w asked.Nobody))
-      | false ↦ elim (eqb d 1) [ true ↦ afterTurn (spurious t op (withAsked w asked.Nobody)) | false ↦ refused w ]
+      | true ↦ afterTurn (withThreads v (announceOp t op (entryIn w (op .object)) (w .threads)))
+      | false ↦ elim (eqb d 1) [ true ↦ afterTurn (spurious t op v) | false ↦ refused w ]
     ]
 
 unfoldable pub decideAt : Asked → Table → World → ℕ → Decided

@@ -9,6 +9,7 @@ use Rattle.rules.specs.declared.object.Entry.{Entry}
 use Rattle.rules.specs.declared.object.Ending.{Ending}
 use Rattle.rules.specs.declared.object.Ending.the-variants as ending
 use Rattle.rules.specs.declared.condvar.Call.the-variants as condvar-call
+use Rattle.rules.specs.declared.thread.Thread.{Thread}
 use Rattle.rules.specs.declared.thread.Phase.{Phase}
 use Rattle.rules.specs.declared.thread.Phase.the-variants.{Nothing, Announced, Parked, Retaking}
 use Rattle.rules.specs.declared.table.Call.{Call}
@@ -28,7 +29,7 @@ use Rattle.rules.specs.Object.{leaks}
 use Rattle.rules.specs.Answer.{numbersOf}
 use Rattle.rules.specs.TableLaws.{by-test}
 use Rattle.rules.specs.Announce.{isFree, asks}
-use Rattle.rules.specs.Turn.{allEnded, anyRunnable, leakCheck, afterTurn, endingOf, perform, goOn, waiting, thereafter, operate, turnOf, begin, question, decideAt, decide, entryIn, threadIn}
+use Rattle.rules.specs.Turn.{allEnded, anyRunnable, leakCheck, afterStep, endingOf, goOn, thereafter, operation, turnOf, begin, question, decideAt, decide, entryIn, threadIn}
 
 -- a verdict's number is 0 to 5
 abbrev Told : Step → Type 0
@@ -44,9 +45,9 @@ unfolding leakCheck numbersOf
 leak-told k [] = omega arith
 leak-told k (e ∷ es) = by-test (λ (a : Answer). numbersOf a .number ≤ 5) (leaks (e .kind) e) (λ l. omega arith) (λ l. leak-told (suc k) es)
 
-after-told : (w : World) → Fine (afterTurn w)
-unfolding afterTurn numbersOf
-after-told w = by-test Fine (allEnded (w .threads)) (λ a. leak-told 0 (w .objects)) (λ a. by-test Fine (anyRunnable (w .threads)) (λ r. tt) (λ r. omega arith))
+after-told : (ts : List Thread) (es : List Entry) → Told (afterStep ts es)
+unfolding afterStep numbersOf
+after-told ts es = by-test Told (allEnded ts) (λ a. leak-told 0 es) (λ a. by-test Told (anyRunnable ts) (λ r. tt) (λ r. omega arith))
 
 ending-told : (e : Ending) (s : Spot) (shown : World) (next : Decided) → Fine next → Fine (endingOf e s shown next)
 unfolding endingOf numbersOf
@@ -55,22 +56,18 @@ ending-told ending.Misuse s shown next f = omega arith
 ending-told ending.NoRoom s shown next f = omega arith
 ending-told (ending.Race o) s shown next f = omega arith
 
-perform-told : (t : ThreadId) (op : Op) (shown w : World) (go : World → Decided) → ((v : World) → Fine (go v)) → Fine (perform t op shown w go)
-unfolding perform
-perform-told t op shown w go f = ending-told _ _ shown _ (f _)
-
 go-told : (t : ThreadId) (ops : List Op) (w : World) → Fine (goOn t ops w)
 unfolding goOn
-go-told t [] w = after-told _
+go-told t [] w = after-told _ _
 go-told t (op ∷ ops) w =
-    by-test Fine (isFree (op .call)) (λ b. perform-told t op w w _ (λ v. go-told t ops _))
-    (λ b. by-test Fine (asks (op .call) (entryIn w (op .object))) (λ q. tt) (λ q. after-told _))
+    by-test Fine (isFree (op .call)) (λ b. ending-told _ _ w _ (go-told t ops _))
+    (λ b. by-test Fine (asks (op .call) (entryIn w (op .object))) (λ q. tt) (λ q. after-told _ _))
 
 then-told : (c : Call) (t : ThreadId) (ops : List Op) (w : World) → Fine (thereafter c t ops w)
-unfolding thereafter waiting
+unfolding thereafter
 then-told (Mutex c) t ops w = go-told t ops _
 then-told (RwLock c) t ops w = go-told t ops _
-then-told (Condvar (condvar-call.Wait m)) t ops w = after-told _
+then-told (Condvar (condvar-call.Wait m)) t ops w = after-told _ _
 then-told (Condvar condvar-call.NotifyOne) t ops w = go-told t ops _
 then-told (Condvar condvar-call.NotifyAll) t ops w = go-told t ops _
 then-told (Notify c) t ops w = go-told t ops _
@@ -78,21 +75,21 @@ then-told (Channel c) t ops w = go-told t ops _
 then-told (Arc c) t ops w = go-told t ops _
 then-told (Cell c) t ops w = go-told t ops _
 
-operate-told : (t : ThreadId) (op : Op) (ops : List Op) (shown w : World) → Fine (operate t op ops shown w)
-unfolding operate
-operate-told t op ops shown w = perform-told t op shown _ _ (then-told (op .call) t ops)
+operation-told : (t : ThreadId) (op : Op) (ops : List Op) (w : World) → Fine (operation t op ops w)
+unfolding operation
+operation-told t op ops w = ending-told _ _ w _ (then-told (op .call) t ops _)
 
-turn-told : (p : Phase) (t : ThreadId) (ops : List Op) (shown w : World) → Fine (turnOf p t ops shown w)
+turn-told : (p : Phase) (t : ThreadId) (ops : List Op) (w : World) → Fine (turnOf p t ops w)
 unfolding turnOf
-turn-told Nothing t ops shown w = go-told t ops w
-turn-told (Announced p) t ops shown w = operate-told t _ _ shown w
-turn-told Parked t ops shown w = after-told _
-turn-told (Retaking p) t ops shown w = operate-told t _ _ shown w
+turn-told Nothing t ops w = go-told t ops _
+turn-told (Announced p) t ops w = operation-told t _ _ w
+turn-told Parked t ops w = after-told _ _
+turn-told (Retaking p) t ops w = operation-told t _ _ w
 
 decide-told : (a : Asked) (table : Table) (w : World) (d : ℕ) → Fine (decideAt a table w d)
 unfolding decideAt begin question
-decide-told asked.Nobody table w d = by-test Fine (isRunnable (threadIn w (record { 0 = d }) .state)) (λ r. turn-told _ _ _ _ _) (λ r. tt)
-decide-told (asked.Thread t) table w d = by-test Fine (eqb d 0) (λ z. after-told _) (λ z. by-test Fine (eqb d 1) (λ o. after-told _) (λ o. tt))
+decide-told asked.Nobody table w d = by-test Fine (isRunnable (threadIn w (record { 0 = d }) .state)) (λ r. turn-told _ _ _ _) (λ r. tt)
+decide-told (asked.Thread t) table w d = by-test Fine (eqb d 0) (λ z. after-told _ _) (λ z. by-test Fine (eqb d 1) (λ o. after-told _ _) (λ o. tt))
 
 -- a decision's verdict is one of 0 to 5
 pub verdict-number : (table : Table) (w : World) (d : ℕ) (a : Answer) → decide table w d .step ≡ Done a → numbersOf a .number ≤ 5
