@@ -1,5 +1,8 @@
 // The lock objects: one module for each of loom's files, over thread records by value.
 pub mod access;
+pub mod arc;
 pub mod cell;
+pub mod condvar;
 pub mod mutex;
+pub mod notify;
 pub mod thread;

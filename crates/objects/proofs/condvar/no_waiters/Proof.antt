@@ -1,0 +1,15 @@
+-- `condvar::no_waiters` meets its contract.
+use borrow.Author.Needs.{needs}
+use mathlib.Core.Path.{ap}
+use lib.ListN.{replicate}
+use Rattle.objects.proofs.condvar.no_waiters.Statement.{statement}
+use Rattle.objects.proofs.condvar.no_waiters.Tie as tie
+
+nobody-requires : tie.Need-nobody-requires
+nobody-requires c κs = search needs
+
+returns : tie.Need-returns
+returns c = ap (replicate 8) (c .nobody .ensures)
+
+pub no-waiters-spec : {M : Type 1} → statement M
+no-waiters-spec = tie.close (tie.spec nobody-requires returns)

@@ -1,0 +1,26 @@
+-- `condvar::queue` meets its contract: the room's test decides the definition's.
+use borrow.Author.Tests.{lt-ltb, le-ltb}
+use Rattle.rules.specs.Condvar.{queued}
+use borrow.Author.Needs.{needs}
+use Rattle.objects.proofs.condvar.queue.Statement.{statement}
+use Rattle.objects.proofs.condvar.queue.Tie as tie
+
+cast-n : tie.Need-cast-n
+cast-n c = search needs
+
+element-set-from-active : tie.Need-element-set-from-active
+element-set-from-active c = search needs
+
+add-s : tie.Need-add-s
+add-s c = search needs
+
+returns : tie.Need-returns
+unfolding queued
+returns c = rw (queued, lt-ltb _ _ (c .before .if1 .taken))
+
+returns-2 : tie.Need-returns-2
+unfolding queued
+returns-2 c = rw (queued, le-ltb _ _ (c .if1 .left))
+
+pub queue-spec : {M : Type 1} → statement M
+queue-spec = tie.close (tie.spec cast-n element-set-from-active add-s returns returns-2)
