@@ -1,9 +1,9 @@
 // loom's rt/arc.rs.
 ghost use mathlib.Core.Path.{_≡_};
 ghost use mathlib.Core.Bool.{cond};
-ghost use Rattle.clocks.specs.Clock.{risen};
 ghost use Rattle.rules.specs.Arc.{new, lastModification, lastDependentAccess, withAccesses, setLastAccess, released, refInc, refDec, inspected, getMut, strongCount, leaks};
 use crate::access;
+use crate::count::one_more;
 use crate::thread::sync_load;
 use crate::thread::sync_store;
 use clocks::Clock;
@@ -97,13 +97,6 @@ fn released(state: State, threads: [Thread; THREADS]) -> Counted
         state: state,
         threads: threads,
     }
-}
-
-// One more, unless the count is at its type's end.
-fn one_more(n: u16) -> u16
-    ensures { λ r. ⌜ r ≡ risen 65535 n ⌝ }
-{
-    if n < 65535 { n + 1 } else { n }
 }
 
 fn one_if(test: bool) -> u16

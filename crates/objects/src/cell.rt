@@ -1,8 +1,8 @@
 // loom's rt/cell.rs. A step that is misuse or races leaves the cell and the thread as they were.
 ghost use mathlib.Core.Path.{_≡_};
-ghost use Prim.Native.Nat.{_-_};
-ghost use Rattle.clocks.specs.Clock.{risen};
 ghost use Rattle.rules.specs.Cell.{new, isReading, startReadMisuse, startWriteMisuse, endReadMisuse, endWriteMisuse, racing, isFine, firstRace, trackRead, trackWrite, unless, accessed, read, written, startRead, endRead, startWrite, endWrite};
+use crate::count::one_less;
+use crate::count::one_more;
 use crate::thread::own_count_up;
 use clocks::Ahead;
 use clocks::Clock;
@@ -128,18 +128,6 @@ fn end_write_misuse(state: State) -> bool
         return is_reading(state);
     }
     true
-}
-
-fn one_more(n: u16) -> u16
-    ensures { λ r. ⌜ r ≡ risen 65535 n ⌝ }
-{
-    if n < 65535 { n + 1 } else { n }
-}
-
-fn one_less(n: u16) -> u16
-    ensures { λ r. ⌜ r ≡ n - 1 ⌝ }
-{
-    if 0 < n { n - 1 } else { 0 }
 }
 
 // The cell with a read joined, and with a write joined.

@@ -3,6 +3,7 @@ pub mod access;
 pub mod arc;
 pub mod cell;
 pub mod condvar;
+pub mod count;
 pub mod mutex;
 pub mod notify;
 pub mod thread;
