@@ -64,8 +64,8 @@ unfolding ground.loaded
     notify.notify notify.wait condvar.queued condvar.notifyOne condvar.unparkEach
     condvar.notifyAll
     cell.firstRace cell.accessed cell.trackRead cell.trackWrite cell.startRead
-    cell.endRead cell.startWrite cell.endWrite object.newEntry object.announced object.anyAccess
-    object.setAnyAccess object.lastDependentAccess object.setLastAccess object.leaks table.calls table.kinds
+    cell.endRead cell.startWrite cell.endWrite object.newEntry object.announced
+    table.calls table.kinds
     table.isObject table.isOperation table.bodyLength table.objectOf table.operationOf table.wholeRecord table.recordOf
     table.isKind table.objectsFine table.emptyTable table.withObject
     table.withThread table.withOp table.objectRecord table.threadRecord table.operationRecord table.oneRecord table.atEnd table.readFrom table.readTable

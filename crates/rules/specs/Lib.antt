@@ -18,6 +18,7 @@ pub mod Walk
 pub mod Cases
 pub mod Examples
 pub mod Vectors
+pub mod RwLockLaws
 pub mod TableLaws
 pub mod SheetLaws
 pub mod Demand

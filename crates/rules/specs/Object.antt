@@ -78,7 +78,7 @@ unfoldable pub announced : Phase → Bool → Thread → Thread
 announced p disable t = elim disable [ true ↦ setBlocked (withPhase t p) | false ↦ withPhase t p ]
 
 -- "Mutex, RwLock, Condvar, Notify: any access."
-unfoldable pub anyAccess : Kind → Entry → Access
+abbrev pub anyAccess : Kind → Entry → Access
 anyAccess kind.Mutex e = e .mutex .«last_access»
 anyAccess kind.RwLock e = e .rwlock .«last_access»
 anyAccess kind.Condvar e = e .condvar .«last_access»
@@ -88,7 +88,7 @@ anyAccess kind.Arc e = noAccess
 anyAccess kind.Cell e = noAccess
 anyAccess kind.Nothing e = noAccess
 
-unfoldable pub setAnyAccess : Kind → Access → Entry → Entry
+abbrev pub setAnyAccess : Kind → Access → Entry → Entry
 setAnyAccess kind.Mutex a e = putMutex e (mutex.withAccess (e .mutex) a)
 setAnyAccess kind.RwLock a e = putRwLock e (rwlock.withAccess (e .rwlock) a)
 setAnyAccess kind.Condvar a e = putCondvar e (condvar.withAccess (e .condvar) a)
@@ -99,20 +99,20 @@ setAnyAccess kind.Cell a e = e
 setAnyAccess kind.Nothing a e = e
 
 -- the last access that an action on the object depends on; Channel and Arc go by the action
-unfoldable pub lastDependentAccess : Action → Entry → Access
+abbrev pub lastDependentAccess : Action → Entry → Access
 lastDependentAccess (action.Arc a) e = arc.lastDependentAccess a (e .arc)
 lastDependentAccess (action.Channel a) e = mpsc.lastDependentAccess a (e .channel)
 lastDependentAccess (action.RwLock a) e = anyAccess (e .kind) e
 lastDependentAccess action.Opaque e = anyAccess (e .kind) e
 
-unfoldable pub setLastAccess : Action → Access → Entry → Entry
+abbrev pub setLastAccess : Action → Access → Entry → Entry
 setLastAccess (action.Arc a) x e = putArc e (arc.setLastAccess a x (e .arc))
 setLastAccess (action.Channel a) x e = putChannel e (mpsc.setLastAccess a x (e .channel))
 setLastAccess (action.RwLock a) x e = setAnyAccess (e .kind) x e
 setLastAccess action.Opaque x e = setAnyAccess (e .kind) x e
 
 -- "leak check in object order (Arc count or message count not 0)"
-unfoldable pub leaks : Kind → Entry → Bool
+abbrev pub leaks : Kind → Entry → Bool
 leaks kind.Mutex e = false
 leaks kind.RwLock e = false
 leaks kind.Condvar e = false

@@ -2,7 +2,7 @@
 use mathlib.Core.Bool.{Bool, true, false}
 use mathlib.Core.List.{List}
 use Prim.Native.Nat.{ℕ, _+_, _-_, _/_, _%_, _^_}
-use lib.Dec.{eqb}
+use lib.Dec.{eqb, ltb}
 use Rattle.clocks.specs.Clock.{zeroClock}
 use Rattle.clocks.specs.declared.thread.ThreadId.{ThreadId}
 use Rattle.rules.specs.declared.access.Access.{Access}
@@ -25,15 +25,18 @@ withAccess s a = record { lock = s .lock; «last_access» = a; synchronize = s .
 abbrev pub withLock : State → Locked → State
 withLock s l = record { lock = l; «last_access» = s .«last_access»; synchronize = s .synchronize }
 
--- "readers are a set": a mask with a bit for each thread
+-- "readers are a set": a mask with a bit for each thread; a number that no thread has has no bit, is no reader and changes nothing
+abbrev pub readerBit : ThreadId → ℕ
+readerBit t = elim (ltb (t .0) 6) [ true ↦ 2 ^ (t .0) | false ↦ 0 ]
+
 unfoldable pub isReader : ℕ → ThreadId → Bool
-isReader mask t = eqb (mask / 2 ^ (t .0) % 2) 1
+isReader mask t = elim (ltb (t .0) 6) [ true ↦ eqb (mask / 2 ^ (t .0) % 2) 1 | false ↦ false ]
 
 unfoldable pub withReader : ℕ → ThreadId → ℕ
-withReader mask t = elim (isReader mask t) [ true ↦ mask | false ↦ mask + 2 ^ (t .0) ]
+withReader mask t = elim (isReader mask t) [ true ↦ mask | false ↦ mask + readerBit t ]
 
 unfoldable pub withoutReader : ℕ → ThreadId → ℕ
-withoutReader mask t = elim (isReader mask t) [ true ↦ mask - 2 ^ (t .0) | false ↦ mask ]
+withoutReader mask t = elim (isReader mask t) [ true ↦ mask - readerBit t | false ↦ mask ]
 
 -- "33 blocks while written, 34 while locked at all; in the same cases 35 and 36 fail"
 abbrev pub isWriteLocked : Locked → Bool

@@ -1,0 +1,76 @@
+-- `object::set_any_access` meets its contract, by the kind.
+use mathlib.Core.Path.{sym, ap}
+use Rattle.rules.specs.declared.object.Kind.{Kind}
+use Rattle.rules.specs.Object.{setAnyAccess}
+use borrow.Author.Needs.{needs}
+use Rattle.objects.proofs.object.set_any_access.Statement.{statement}
+use Rattle.objects.proofs.object.set_any_access.Tie as tie
+
+enum-told : tie.Need-enum-told
+enum-told c = search needs
+
+enum-told-2 : tie.Need-enum-told-2
+enum-told-2 c = search needs
+
+enum-told-3 : tie.Need-enum-told-3
+enum-told-3 c = search needs
+
+enum-told-4 : tie.Need-enum-told-4
+enum-told-4 c = search needs
+
+enum-told-5 : tie.Need-enum-told-5
+enum-told-5 c = search needs
+
+enum-told-6 : tie.Need-enum-told-6
+enum-told-6 c = search needs
+
+enum-told-7 : tie.Need-enum-told-7
+enum-told-7 c = search needs
+
+enum-told-8 : tie.Need-enum-told-8
+enum-told-8 c = search needs
+
+returns : tie.Need-returns
+returns c = let a = c .before .before .before .args in sym (ap (λ (k : Kind). setAnyAccess k (a .a) (a .e)) (c .before .enum-told .given .1))
+
+returns-2 : tie.Need-returns-2
+returns-2 c = let a = c .before .before .before .args in sym (ap (λ (k : Kind). setAnyAccess k (a .a) (a .e)) (c .before .enum-told2 .given .1))
+
+returns-3 : tie.Need-returns-3
+returns-3 c = let a = c .before .before .before .args in sym (ap (λ (k : Kind). setAnyAccess k (a .a) (a .e)) (c .before .enum-told3 .given .1))
+
+returns-4 : tie.Need-returns-4
+returns-4 c = let a = c .before .before .before .args in sym (ap (λ (k : Kind). setAnyAccess k (a .a) (a .e)) (c .before .enum-told4 .given .1))
+
+returns-5 : tie.Need-returns-5
+returns-5 c = search needs
+
+returns-6 : tie.Need-returns-6
+returns-6 c = search needs
+
+returns-7 : tie.Need-returns-7
+returns-7 c = search needs
+
+returns-8 : tie.Need-returns-8
+returns-8 c = search needs
+
+pub set-any-access-spec : {M : Type 1} → statement M
+set-any-access-spec =
+    tie.close
+    (tie.spec
+    enum-told
+    enum-told-2
+    enum-told-3
+    enum-told-4
+    enum-told-5
+    enum-told-6
+    enum-told-7
+    enum-told-8
+    returns
+    returns-2
+    returns-3
+    returns-4
+    returns-5
+    returns-6
+    returns-7
+    returns-8)
