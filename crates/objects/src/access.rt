@@ -5,7 +5,7 @@ use clocks::Clock;
 use rules::access::Access;
 
 // The access that never was.
-pub fn new() -> Access
+pub(crate) fn new() -> Access
     ensures { λ r. ⌜ r ≡ noAccess ⌝ }
 {
     Access {

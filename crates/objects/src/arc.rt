@@ -16,7 +16,7 @@ use rules::arc::RefModify;
 use rules::arc::State;
 use rules::thread::Thread;
 
-pub fn new() -> State
+pub(crate) fn new() -> State
     ensures { λ r. ⌜ r ≡ new ⌝ }
 {
     let never = access::new();
@@ -42,7 +42,7 @@ fn last_modification(modification: RefModify, state: State) -> Access
 }
 
 // A clone depends on inspections only, and drops on each other.
-pub fn last_dependent_access(action: Action, state: State) -> Access
+pub(crate) fn last_dependent_access(action: Action, state: State) -> Access
     ensures { λ r. ⌜ r ≡ lastDependentAccess action state ⌝ }
 {
     let modification = state.last_ref_modification;
@@ -73,7 +73,7 @@ fn with_accesses(
     }
 }
 
-pub fn set_last_access(action: Action, access: Access, state: State) -> State
+pub(crate) fn set_last_access(action: Action, access: Access, state: State) -> State
     ensures { λ r. ⌜ r ≡ setLastAccess action access state ⌝ }
 {
     let inc = state.last_ref_inc;
@@ -179,7 +179,7 @@ pub fn strong_count(state: State, threads: [Thread; THREADS], active: ThreadId) 
 }
 
 // loom's check_for_leaks.
-pub fn leaks(state: State) -> bool
+pub(crate) fn leaks(state: State) -> bool
     ensures { λ r. ⌜ r ≡ leaks state ⌝ }
 {
     state.ref_cnt != 0

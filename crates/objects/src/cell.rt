@@ -12,7 +12,7 @@ use rules::cell::State;
 use rules::object::Ending;
 use rules::thread::Thread;
 
-pub fn new() -> State
+pub(crate) fn new() -> State
     ensures { λ r. ⌜ r ≡ new ⌝ }
 {
     State {

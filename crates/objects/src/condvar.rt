@@ -30,7 +30,7 @@ fn no_waiters() -> [ThreadId; WAITERS]
     [filler; WAITERS]
 }
 
-pub fn new() -> State
+pub(crate) fn new() -> State
     ensures { λ r. ⌜ r ≡ new ⌝ }
 {
     State {

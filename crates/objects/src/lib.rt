@@ -1,9 +1,9 @@
 // The lock objects: one module for each of loom's files, over thread records by value.
-pub mod access;
+mod access;
 pub mod arc;
 pub mod cell;
 pub mod condvar;
-pub mod count;
+mod count;
 pub mod mpsc;
 pub mod mutex;
 pub mod notify;

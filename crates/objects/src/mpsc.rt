@@ -23,7 +23,7 @@ use rules::thread::Thread;
 // The last place of the queue.
 const LAST: usize = MESSAGES - 1;
 
-pub fn new() -> State
+pub(crate) fn new() -> State
     ensures { λ r. ⌜ r ≡ new ⌝ }
 {
     let zero = Clock::new();
@@ -44,7 +44,7 @@ pub fn is_empty(state: State) -> bool
 }
 
 // The last access of the same action.
-pub fn last_dependent_access(action: Action, state: State) -> Access
+pub(crate) fn last_dependent_access(action: Action, state: State) -> Access
     ensures { λ r. ⌜ r ≡ lastDependentAccess action state ⌝ }
 {
     match action {
@@ -53,7 +53,7 @@ pub fn last_dependent_access(action: Action, state: State) -> Access
     }
 }
 
-pub fn set_last_access(action: Action, access: Access, state: State) -> State
+pub(crate) fn set_last_access(action: Action, access: Access, state: State) -> State
     ensures { λ r. ⌜ r ≡ setLastAccess action access state ⌝ }
 {
     let mut s = state;
@@ -163,7 +163,7 @@ pub fn recv(state: State, threads: [Thread; THREADS], active: ThreadId, object: 
     }
 }
 
-pub fn leaks(state: State) -> bool
+pub(crate) fn leaks(state: State) -> bool
     ensures { λ r. ⌜ r ≡ leaks state ⌝ }
 {
     !is_empty(state)

@@ -16,7 +16,7 @@ use rules::object::ObjectId;
 use rules::thread::Change;
 use rules::thread::Thread;
 
-pub fn new() -> State
+pub(crate) fn new() -> State
     ensures { λ r. ⌜ r ≡ new ⌝ }
 {
     State {

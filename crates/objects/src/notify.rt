@@ -15,7 +15,7 @@ use rules::object::ObjectId;
 use rules::thread::Change;
 use rules::thread::Thread;
 
-pub fn new(spurious: bool) -> State
+pub(crate) fn new(spurious: bool) -> State
     ensures { λ r. ⌜ r ≡ new spurious ⌝ }
 {
     State {

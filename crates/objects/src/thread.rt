@@ -14,7 +14,7 @@ use rules::thread::State;
 use rules::thread::Thread;
 
 // A thread that a table does not have.
-pub fn absent() -> Thread
+pub(crate) fn absent() -> Thread
     ensures { λ r. ⌜ r ≡ absent ⌝ }
 {
     Thread {
@@ -107,7 +107,7 @@ fn unpark_state(s: State) -> State
 }
 
 // The clock `by` is joined in, also into a thread that has ended.
-pub fn unpark(t: Thread, by: Clock) -> Thread
+pub(crate) fn unpark(t: Thread, by: Clock) -> Thread
     ensures { λ r. ⌜ r ≡ unpark by t ⌝ }
 {
     let state = t.state;
@@ -151,7 +151,7 @@ pub fn is_ended(s: State) -> bool
 }
 
 // Whether a phase announces an operation on the object.
-pub fn is_on(p: Phase, object: ObjectId) -> bool
+pub(crate) fn is_on(p: Phase, object: ObjectId) -> bool
     ensures { λ r. ⌜ r ≡ isOn object p ⌝ }
 {
     match p {
@@ -244,7 +244,7 @@ fn changed_at(
 }
 
 // Every other thread that is announced on the object, changed.
-pub fn others(
+pub(crate) fn others(
     threads: [Thread; THREADS],
     change: Change,
     active: ThreadId,
@@ -262,7 +262,7 @@ pub fn others(
 }
 
 // The unpark of one thread; of the active one it does nothing.
-pub fn unpark_thread(
+pub(crate) fn unpark_thread(
     threads: [Thread; THREADS],
     active: ThreadId,
     id: ThreadId,
@@ -277,7 +277,7 @@ pub fn unpark_thread(
 }
 
 // Store (Release): the active thread's clock is joined into the object's.
-pub fn sync_store(threads: [Thread; THREADS], active: ThreadId, clock: Clock) -> Clock
+pub(crate) fn sync_store(threads: [Thread; THREADS], active: ThreadId, clock: Clock) -> Clock
     ensures { λ r. ⌜ r ≡ stored active threads clock ⌝ }
 {
     let by = get(threads, active).clock;
@@ -285,7 +285,11 @@ pub fn sync_store(threads: [Thread; THREADS], active: ThreadId, clock: Clock) ->
 }
 
 // Load (Acquire): the object's clock is joined into the active thread's.
-pub fn sync_load(threads: [Thread; THREADS], active: ThreadId, clock: Clock) -> [Thread; THREADS]
+pub(crate) fn sync_load(
+    threads: [Thread; THREADS],
+    active: ThreadId,
+    clock: Clock,
+) -> [Thread; THREADS]
     ensures { λ r. ⌜ r ≡ loaded active clock threads ⌝ }
 {
     let mut t = get(threads, active);
@@ -295,7 +299,7 @@ pub fn sync_load(threads: [Thread; THREADS], active: ThreadId, clock: Clock) -> 
 }
 
 // The active thread's own count rises by one.
-pub fn own_count_up(t: Thread, active: ThreadId) -> Thread
+pub(crate) fn own_count_up(t: Thread, active: ThreadId) -> Thread
     ensures { λ r. ⌜ r ≡ ownCountUp active t ⌝ }
 {
     let mut u = t;
