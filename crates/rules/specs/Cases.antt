@@ -69,9 +69,9 @@ unfolding ground.loaded
     table.isObject table.isOperation table.bodyLength table.objectOf table.operationOf table.wholeRecord table.recordOf
     table.isKind table.objectsFine table.emptyTable table.withObject
     table.withThread table.withOp table.objectRecord table.threadRecord table.operationRecord table.oneRecord table.atEnd table.readFrom table.readTable
-    table.opsOf answer.numbersOf effect.misuseUnless effect.noRoomUnless effect.answered effect.yesNo
-    effect.mutexEffect effect.rwlockEffect effect.condvarEffect effect.notifyEffect effect.channelEffect effect.counted
-    effect.arcEffect effect.touched effect.cellEffect effect.effect
+    table.opsOf answer.numbersOf effect.answered
+    effect.mutexEffect effect.rwlockEffect effect.condvarEffect effect.notifyEffect effect.channelEffect
+    effect.arcEffect effect.cellEffect effect.effect
     announce.isDisabled
     announce.asks
     turn.allEnded turn.anyRunnable turn.leakCheck turn.stuck turn.afterStep turn.announceOp turn.retake turn.dependence turn.operate turn.advance turn.ended turn.park turn.wait turn.endingOf turn.goOn turn.thereafter turn.operation turn.turnOf turn.begin turn.spurious turn.question turn.decideAt turn.decide turn.startThread turn.start

@@ -1,2 +1,4 @@
 // The judge: a table is read, decisions are taken one at a time, a list is judged, and the sheet is written.
+pub mod announce;
+pub mod effect;
 pub mod table;
