@@ -24,3 +24,4 @@ pub mod SheetLaws
 pub mod Demand
 pub mod TurnLaws
 pub mod JudgeLaws
+pub mod AfterLaws
