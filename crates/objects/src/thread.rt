@@ -131,12 +131,7 @@ pub fn is_runnable(s: State) -> bool
 pub fn has_unpark(s: State) -> bool
     ensures { λ r. ⌜ r ≡ hasUnpark s ⌝ }
 {
-    match s {
-        State::Runnable => false,
-        State::Unparked => true,
-        State::Blocked => false,
-        State::Ended => false,
-    }
+    if let State::Unparked = s { true } else { false }
 }
 
 pub fn is_ended(s: State) -> bool
