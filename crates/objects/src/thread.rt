@@ -131,7 +131,13 @@ pub fn is_runnable(s: State) -> bool
 pub fn has_unpark(s: State) -> bool
     ensures { λ r. ⌜ r ≡ hasUnpark s ⌝ }
 {
-    if let State::Unparked = s { true } else { false }
+    match s {
+        // The one state that has it.
+        State::Unparked => true,
+        State::Runnable => false,
+        State::Blocked => false,
+        State::Ended => false,
+    }
 }
 
 pub fn is_ended(s: State) -> bool
