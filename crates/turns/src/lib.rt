@@ -5,3 +5,4 @@ pub mod answer;
 mod effect;
 pub mod sheet;
 pub mod table;
+mod turn;

@@ -1,0 +1,154 @@
+// A turn's steps, on the threads and on the one object that each concerns.
+ghost use mathlib.Core.Path.{_≡_};
+ghost use Rattle.clocks.specs.Clock.{risen};
+ghost use Rattle.rules.specs.Turn.{announceOp, retake, dependence, operate, advance, ended, park, wait};
+use crate::announce::action_of;
+use crate::announce::is_disabled;
+use crate::effect::effect;
+use clocks::Clock;
+use clocks::THREADS;
+use clocks::ThreadId;
+use objects::mutex::is_locked;
+use objects::mutex::release_lock;
+use objects::object::branch_disable;
+use objects::object::last_dependent_access;
+use objects::object::set_last_access;
+use objects::thread::get;
+use objects::thread::has_unpark;
+use objects::thread::put;
+use objects::thread::set_blocked;
+use objects::thread::set_runnable;
+use objects::thread::with_phase;
+use objects::thread::with_state;
+use rules::access::Access;
+use rules::object::Action;
+use rules::object::Ending;
+use rules::object::Entry;
+use rules::object::ObjectId;
+use rules::object::Operation;
+use rules::table::Op;
+use rules::thread::Phase;
+use rules::thread::State;
+use rules::thread::Thread;
+use rules::world::Effect;
+
+// The operation is announced on its object.
+fn announce_op(t: ThreadId, op: Op, e: Entry, threads: [Thread; THREADS]) -> [Thread; THREADS]
+    ensures { λ r. ⌜ r ≡ announceOp t op e threads ⌝ }
+{
+    let call = op.call;
+    let object = op.object;
+    let action = action_of(call);
+    let phase = Phase::Announced(Operation {
+        obj: object,
+        action: action,
+    });
+    put(
+        threads,
+        t,
+        branch_disable(phase, is_disabled(call, e), get(threads, t)),
+    )
+}
+
+// The mutex of a condvar wait is taken back.
+fn retake(t: ThreadId, m: ObjectId, e: Entry, threads: [Thread; THREADS]) -> [Thread; THREADS]
+    ensures { λ r. ⌜ r ≡ retake t m e threads ⌝ }
+{
+    let s = e.mutex;
+    let lock = s.lock;
+    let phase = Phase::Retaking(Operation {
+        obj: m,
+        action: Action::Opaque,
+    });
+    put(
+        threads,
+        t,
+        branch_disable(phase, is_locked(lock), get(threads, t)),
+    )
+}
+
+// The last dependent access is joined in, and the own count rises.
+fn dependence(t: ThreadId, action: Action, e: Entry, x: Thread) -> Clock
+    ensures { λ r. ⌜ r ≡ dependence t action e x ⌝ }
+{
+    let own = x.dependence;
+    let last = last_dependent_access(action, e);
+    let version = last.version;
+    own.join(version).inc(t)
+}
+
+// An announced operation: its access is recorded, it is no longer announced, and takes effect.
+fn operate(t: ThreadId, op: Op, turn: u16, e: Entry, threads: [Thread; THREADS]) -> Effect
+    ensures { λ r. ⌜ r ≡ operate t op turn e threads ⌝ }
+{
+    let call = op.call;
+    let object = op.object;
+    let action = action_of(call);
+    let x = get(threads, t);
+    let v = dependence(t, action, e, x);
+    let access = Access {
+        path_id: turn,
+        version: v,
+    };
+    let mut y = with_phase(x, Phase::Nothing);
+    y.dependence = v;
+    effect(
+        call,
+        t,
+        object,
+        set_last_access(action, access, e),
+        put(threads, t, y),
+    )
+}
+
+fn one_more(n: u8) -> u8
+    ensures { λ r. ⌜ r ≡ risen 255 n ⌝ }
+{
+    if n < 255 { n + 1 } else { n }
+}
+
+// One more operation is done.
+fn advance(t: ThreadId, threads: [Thread; THREADS]) -> [Thread; THREADS]
+    ensures { λ r. ⌜ r ≡ advance t threads ⌝ }
+{
+    let mut x = get(threads, t);
+    x.position = one_more(x.position);
+    put(threads, t, x)
+}
+
+// No operation is left.
+fn ended(t: ThreadId, threads: [Thread; THREADS]) -> [Thread; THREADS]
+    ensures { λ r. ⌜ r ≡ ended t threads ⌝ }
+{
+    let x = with_state(get(threads, t), State::Ended);
+    put(threads, t, with_phase(x, Phase::Nothing))
+}
+
+// A stored unpark is used up, and the thread goes on to retake the mutex; without one it is parked.
+fn park(t: ThreadId, m: ObjectId, e: Entry, threads: [Thread; THREADS]) -> [Thread; THREADS]
+    ensures { λ r. ⌜ r ≡ park t m e threads ⌝ }
+{
+    let x = get(threads, t);
+    let state = x.state;
+    if has_unpark(state) {
+        return retake(t, m, e, put(threads, t, set_runnable(x)));
+    }
+    put(threads, t, with_phase(set_blocked(x), Phase::Parked))
+}
+
+// A condvar wait, once it is queued: the mutex is released, and the thread parks.
+fn wait(t: ThreadId, m: ObjectId, e: Entry, threads: [Thread; THREADS]) -> Effect
+    ensures { λ r. ⌜ r ≡ wait t m e threads ⌝ }
+{
+    let s = e.mutex;
+    let r = release_lock(s, threads, t, m);
+    let state = r.state;
+    let woken = r.threads;
+    let mut entry = e;
+    entry.mutex = state;
+    Effect {
+        ending: Ending::Fine,
+        entry: entry,
+        threads: park(t, m, entry, woken),
+    }
+}
