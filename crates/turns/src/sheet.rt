@@ -168,14 +168,20 @@ fn put_rwlock(sheet: &mut [u8], at: usize, s: rwlock::State)
     put_clock(sheet, at + 3, clock);
 }
 
-// A place that no waiter has is FF already.
+// A waiter, or FF: a place that no waiter has holds that already.
+fn waiter_byte(t: ThreadId) -> u8
+    ensures { λ r. ⌜ r ≡ number t ⌝ }
+{
+    t.0
+}
+
 fn put_waiters(sheet: &mut [u8], at: usize, waiters: [ThreadId; WAITERS])
     requires { ⌜ at < 60100 ⌝ }
     ensures { λ _. ⌜ now (sheet .exit) ≡ sets (now (sheet .entry)) at (filled 255 8 (map number waiters)) ⌝ }
 {
     for i in 0..WAITERS {
         let t = waiters[i];
-        put(sheet, at + i, t.0);
+        put(sheet, at + i, waiter_byte(t));
     }
 }
 

@@ -1,7 +1,7 @@
 -- `sheet::put_messages` meets its contract. The loop's invariant: the first i clocks are written.
 use mathlib.Core.Path.{_≡_, refl, _∙_, ap}
 use mathlib.Core.List.{List}
-use Prim.Native.Nat.{_+_, _*_, _≤_, _-_}
+use Prim.Native.Nat.{_+_, _*_, _≤_, _<_, _-_}
 use native.Mathlib.Omega.{arith}
 use lib.ListN.{length}
 use lib.Seq.{sets, length-sets}
@@ -50,8 +50,8 @@ loop-again c =
     let l = c .before .before .before .before .before .before .loop in
     let ks : List Clock = a .t3 in
     let n : length ks ≡ 16 = search needs in
-    let here = ap (λ (k : Clock). sets (l .sheet) (a .at + 6 * l .i) (clockBytes k)) (getD-within ks (l .i) _ zeroClock (omega arith)) in
-    (search needs, each-written (a .sheet .now) (a .at) clockBytes 6 clock-length zeroClock (l .i) ks (l .inv .1) (c .before .before .put-clock .ensures ∙ here))
+    let inside : l .i < length ks = omega arith in
+    (search needs, each-written (a .sheet .now) (a .at) clockBytes 6 clock-length zeroClock (l .i) ks (l .inv .1) (c .before .before .put-clock .ensures ∙ ap (λ (k : Clock). sets (l .sheet) (a .at + 6 * l .i) (clockBytes k)) (getD-within ks (l .i) _ zeroClock inside)))
 
 same-length : tie.Need-same-length Inv-loop μ-loop
 same-length c = ap length (c .before .loop .inv .1) ∙ simp length-sets

@@ -27,6 +27,9 @@ array-copy-out-t c = search needs
 add-put : tie.Need-add-put Inv-loop μ-loop
 add-put c = search needs
 
+waiter-byte-requires : tie.Need-waiter-byte-requires Inv-loop μ-loop
+waiter-byte-requires c κs = search needs
+
 put-requires : tie.Need-put-requires Inv-loop μ-loop
 put-requires c κs = search needs
 
@@ -38,11 +41,11 @@ loop-less c = search needs
 
 loop-again : tie.Need-loop-again Inv-loop μ-loop
 loop-again c =
-    let a = c .before .before .before .before .before .before .before .before .args in
-    let l = c .before .before .before .before .before .before .loop in
+    let a = c .before .before .before .before .before .before .before .before .before .args in
+    let l = c .before .before .before .before .before .before .before .loop in
     let ws : List ThreadId = a .t3 in
     let n : length ws ≡ 8 = search needs in
-    let here = ap (λ (b : ℕ). set (l .sheet) (a .at + l .i) b) (waiter-at ws (l .i) _ (omega arith)) in
+    let here = ap (λ (b : ℕ). set (l .sheet) (a .at + l .i) b) (c .before .before .before .waiter-byte .ensures ∙ waiter-at ws (l .i) _ (omega arith)) in
     (search needs, filled-written (a .sheet .now) (a .at) 255 (l .i) (map number ws) (l .inv .1) (c .before .before .put .ensures ∙ here))
 
 same-length : tie.Need-same-length Inv-loop μ-loop
@@ -63,6 +66,7 @@ put-waiters-spec =
     loop-holds
     array-copy-out-t
     add-put
+    waiter-byte-requires
     put-requires
     add-i
     loop-less
