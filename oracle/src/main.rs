@@ -1,0 +1,229 @@
+//! The oracle: loom's lock objects, unchanged, as the judge of a lock table.
+
+/// loom's files import `tracing::trace`; this crate stands in for that one.
+extern crate self as tracing;
+
+mod quiet {
+    macro_rules! trace {
+        ($($ignored:tt)*) => {
+            ()
+        };
+    }
+    pub(crate) use trace;
+}
+pub(crate) use quiet::trace;
+
+/// loom's own `dbg!` hands its value through.
+macro_rules! dbg {
+    ($value:expr) => {
+        $value
+    };
+}
+
+mod answer;
+mod compare;
+mod emit;
+mod examples;
+mod families;
+mod judge;
+mod plain;
+mod random;
+mod rt;
+mod table;
+mod text;
+
+use std::io::{BufWriter, Write};
+use std::process::ExitCode;
+use std::time::Instant;
+
+use answer::Answer;
+use compare::Comparison;
+use judge::{each_run, Oracle};
+use plain::{Plain, Slip, SLIPS};
+use text::{hex, run_line, unhex, Chance};
+
+const USAGE: &str = "modes:
+  judge TABLE LIST [SHEETLEN]    the six numbers, then the sheet
+  first TABLE [ROOM]             the six numbers, then the list
+  next TABLE LIST [ROOM]         the six numbers, then the list
+  runs TABLE                     every run: verdict and decisions
+  examples                       the paper's examples in both engines
+  compare small N [single|pairs|triples]
+  compare random SEED COUNT
+  compare limits                 tables at the limits
+  slips                          every slip must be noticed
+  emit SEED COUNT                cases: table|list|length|answer|sheet
+  emit walk SEED COUNT           cases: first or next|table|list|room|answer|list
+  replay                         emit's lines on standard input, said again
+  speed [COUNT]                  decisions a second
+TABLE and LIST are hexadecimal; \"\" is the empty one.";
+
+const ENOUGH_ROOM: usize = 1766;
+
+fn main() -> ExitCode {
+    let arguments: Vec<String> = std::env::args().skip(1).collect();
+    let words: Vec<&str> = arguments.iter().map(String::as_str).collect();
+    match run(&words) {
+        Some(true) => ExitCode::SUCCESS,
+        Some(false) => ExitCode::FAILURE,
+        None => {
+            eprintln!("{USAGE}");
+            ExitCode::from(2)
+        }
+    }
+}
+
+/// `None` if the words are no mode; otherwise whether all went well.
+fn run(words: &[&str]) -> Option<bool> {
+    let bytes = |word: &str| unhex(word);
+    match words {
+        ["judge", table, list, rest @ ..] => {
+            let length = number_or(rest, ENOUGH_ROOM)?;
+            print_answer(Oracle::new().judge(&bytes(table)?, &bytes(list)?, length));
+        }
+        ["first", table, rest @ ..] => {
+            let room = number_or(rest, ENOUGH_ROOM)?;
+            print_answer(Oracle::new().first(&bytes(table)?, room));
+        }
+        ["next", table, list, rest @ ..] => {
+            let room = number_or(rest, ENOUGH_ROOM)?;
+            print_answer(Oracle::new().next(&bytes(table)?, &bytes(list)?, room));
+        }
+        ["runs", table] => print_runs(&bytes(table)?),
+        ["examples"] => return Some(examples::examples()),
+        ["compare", "small", most] => return Some(compare_small(most.parse().ok()?, "all")),
+        ["compare", "small", most, name @ ("single" | "pairs" | "triples")] => {
+            return Some(compare_small(most.parse().ok()?, name));
+        }
+        ["compare", "random", seed, count] => {
+            return Some(compare_random(seed.parse().ok()?, count.parse().ok()?));
+        }
+        ["compare", "limits"] => return Some(compare_limits()),
+        ["slips"] => return Some(slips()),
+        ["emit", "walk", seed, count] => {
+            emit::emit_walk(seed.parse().ok()?, count.parse().ok()?);
+        }
+        ["replay"] => return Some(emit::replay()),
+        ["emit", seed, count] => emit::emit(seed.parse().ok()?, count.parse().ok()?),
+        ["speed", rest @ ..] => speed(number_or(rest, 2000)?),
+        _ => return None,
+    }
+    Some(true)
+}
+
+fn number_or(words: &[&str], otherwise: usize) -> Option<usize> {
+    match words {
+        [] => Some(otherwise),
+        [word] => word.parse().ok(),
+        _ => None,
+    }
+}
+
+fn print_answer((answer, bytes): (Answer, Vec<u8>)) {
+    println!("{}", answer.text());
+    println!("{}", hex(&bytes));
+}
+
+fn print_runs(table: &[u8]) {
+    let mut oracle = Oracle::new();
+    let run = match oracle.open(table) {
+        Err(refusal) => return println!("refused {} at {}", refusal.number, refusal.place),
+        Ok(run) => run,
+    };
+    let mut out = BufWriter::new(std::io::stdout());
+    each_run(run, &mut |list, answer| {
+        // A reader that has seen enough may close the pipe.
+        if writeln!(out, "{}", run_line(answer.number, list)).is_err() {
+            std::process::exit(0);
+        }
+    });
+}
+
+fn compare_small(most: usize, name: &str) -> bool {
+    let mut comparison = Comparison::new(Slip::None);
+    let found = comparison.small(most, name);
+    told(&comparison, found.err())
+}
+
+fn compare_random(seed: u64, count: u64) -> bool {
+    let mut comparison = Comparison::new(Slip::None);
+    let found = comparison.random(seed, count);
+    told(&comparison, found.err())
+}
+
+fn compare_limits() -> bool {
+    let mut comparison = Comparison::new(Slip::None);
+    let found = comparison.limits();
+    told(&comparison, found.err())
+}
+
+fn told(comparison: &Comparison, found: Option<Box<compare::Difference>>) -> bool {
+    println!("compared: {}", comparison.counts);
+    match &found {
+        None => println!("no disagreement"),
+        Some(difference) => println!("DISAGREEMENT\n{difference}"),
+    }
+    found.is_none()
+}
+
+/// Each slip in the plain engine, until a comparison notices it.
+fn slips() -> bool {
+    let mut missed = 0;
+    for slip in SLIPS {
+        match noticed(slip) {
+            Some((by, difference)) => println!("{slip:?}: noticed by {by}\n{difference}"),
+            None => {
+                missed += 1;
+                println!("{slip:?}: NOT NOTICED");
+            }
+        }
+    }
+    println!("{} slips, {missed} not noticed", SLIPS.len());
+    missed == 0
+}
+
+/// The quickest comparison that notices a slip, and the smallest case it has.
+fn noticed(slip: Slip) -> Option<(&'static str, Box<compare::Difference>)> {
+    if let Err(difference) = Comparison::new(slip).small(2, "all") {
+        return Some(("compare small 2", difference));
+    }
+    if let Err(difference) = Comparison::new(slip).random(1, 20_000) {
+        return Some(("compare random 1 20000", difference));
+    }
+    let small = Comparison::new(slip).small(3, "all").err();
+    small.map(|difference| ("compare small 3", difference))
+}
+
+/// Decisions a second of each engine, on the same lists. A sheet is written
+/// where a judge call gives one, and by the oracle before each turn too.
+fn speed(tables: usize) {
+    let mut chance = Chance::new(7);
+    let mut cases = Vec::new();
+    for _ in 0..tables {
+        let table = random::table(&mut chance);
+        let world = plain::read(&table, Slip::None).expect("a good table");
+        let list = random::list(&mut chance, &world);
+        cases.push((table, list));
+    }
+    let mut oracle = Oracle::new();
+    let plain = Plain { slip: Slip::None };
+    timed("oracle", &cases, &mut |table, list| oracle.judge(table, list, ENOUGH_ROOM));
+    timed("plain", &cases, &mut |table, list| plain.judge(table, list, ENOUGH_ROOM));
+}
+
+type Judge<'a> = &'a mut dyn FnMut(&[u8], &[u8]) -> (Answer, Vec<u8>);
+
+fn timed(name: &str, cases: &[(Vec<u8>, Vec<u8>)], judge: Judge) {
+    let decisions: usize = cases.iter().map(|(_, list)| list.len()).sum();
+    let begun = Instant::now();
+    let mut rounds = 0;
+    while begun.elapsed().as_secs() < 2 {
+        for (table, list) in cases {
+            std::hint::black_box(judge(table, list));
+        }
+        rounds += 1;
+    }
+    let rate = (decisions * rounds) as f64 / begun.elapsed().as_secs_f64();
+    let count = cases.len();
+    println!("{name}: {count} lists, {decisions} decisions, {rounds} rounds: {rate:.0} decisions a second");
+}
