@@ -63,6 +63,7 @@ withCount s n c = record {
   «last_ref_modification» = s .«last_ref_modification»;
 }
 
+-- misuse at 0: the Arc is released already, and nothing changes
 abbrev pub released : State → List Thread → Counted
 released s ts = record { done = false; answer = 0; state = s; threads = ts }
 

@@ -32,7 +32,7 @@ use Rattle.rules.specs.Judge.{Verdict, step, Given, over, untouched}
 abbrev pub decisions : ℕ
 decisions = 6
 
--- the falling number of a thread with r operations that are not done, the next of which is `op`
+-- the decision that an announced operation has behind it; a condvar wait has parking and retaking still before it, and none is taken off
 unfoldable pub waitsFor : Call → ℕ
 waitsFor (Mutex c) = 1
 waitsFor (RwLock c) = 1
