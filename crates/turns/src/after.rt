@@ -1,6 +1,6 @@
 // After the turn: the leak check, a deadlock, or the next decision.
 ghost use mathlib.Core.Path.{_≡_};
-ghost use Rattle.rules.specs.Turn.{allEnded, anyRunnable, leakCheck, announcedObject, stuck, afterStep};
+ghost use Rattle.rules.specs.Turn.{allEnded, anyRunnable, leakCheck, announcedObject, stuck};
 use clocks::THREADS;
 use clocks::ThreadId;
 use objects::object::leaks;
@@ -13,9 +13,8 @@ use rules::object::OBJECTS;
 use rules::object::ObjectId;
 use rules::thread::Phase;
 use rules::thread::Thread;
-use rules::world::Step;
 
-fn all_ended(threads: [Thread; THREADS]) -> bool
+pub fn all_ended(threads: [Thread; THREADS]) -> bool
     ensures { λ r. ⌜ r ≡ allEnded threads ⌝ }
 {
     for k in 0..THREADS {
@@ -28,7 +27,7 @@ fn all_ended(threads: [Thread; THREADS]) -> bool
     true
 }
 
-fn any_runnable(threads: [Thread; THREADS]) -> bool
+pub fn any_runnable(threads: [Thread; THREADS]) -> bool
     ensures { λ r. ⌜ r ≡ anyRunnable threads ⌝ }
 {
     for k in 0..THREADS {
@@ -42,7 +41,7 @@ fn any_runnable(threads: [Thread; THREADS]) -> bool
 }
 
 // The first object that leaks.
-fn leak_check(objects: [Entry; OBJECTS]) -> Answer
+pub fn leak_check(objects: [Entry; OBJECTS]) -> Answer
     ensures { λ r. ⌜ r ≡ leakCheck 0 objects ⌝ }
 {
     for k in 0..OBJECTS {
@@ -67,7 +66,7 @@ fn announced_object(phase: Phase) -> ObjectId
 }
 
 // The lowest thread that has not ended, where it stands.
-fn stuck(threads: [Thread; THREADS]) -> Spot
+pub fn stuck(threads: [Thread; THREADS]) -> Spot
     ensures { λ r. ⌜ r ≡ stuck 0 threads ⌝ }
 {
     for k in 0..THREADS {
@@ -87,16 +86,4 @@ fn stuck(threads: [Thread; THREADS]) -> Spot
         position: 255,
         object: ObjectId(255),
     }
-}
-
-pub fn after_step(threads: [Thread; THREADS], objects: [Entry; OBJECTS]) -> Step
-    ensures { λ r. ⌜ r ≡ afterStep threads objects ⌝ }
-{
-    if all_ended(threads) {
-        return Step::Done(leak_check(objects));
-    }
-    if any_runnable(threads) {
-        return Step::Wants;
-    }
-    Step::Done(Answer::Deadlock(stuck(threads)))
 }

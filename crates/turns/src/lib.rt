@@ -1,8 +1,6 @@
-// The judge: a table is read, decisions are taken one at a time, a list is judged, and the sheet is written.
+// The judge: decisions are taken one at a time, and a list is judged.
 mod after;
 mod announce;
-pub mod answer;
 mod effect;
-pub mod sheet;
-pub mod table;
+mod step;
 mod turn;

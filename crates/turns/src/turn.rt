@@ -33,7 +33,7 @@ use rules::thread::Thread;
 use rules::world::Effect;
 
 // The operation is announced on its object.
-fn announce_op(t: ThreadId, op: Op, e: Entry, threads: [Thread; THREADS]) -> [Thread; THREADS]
+pub fn announce_op(t: ThreadId, op: Op, e: Entry, threads: [Thread; THREADS]) -> [Thread; THREADS]
     ensures { λ r. ⌜ r ≡ announceOp t op e threads ⌝ }
 {
     let call = op.call;
@@ -51,7 +51,7 @@ fn announce_op(t: ThreadId, op: Op, e: Entry, threads: [Thread; THREADS]) -> [Th
 }
 
 // The mutex of a condvar wait is taken back.
-fn retake(t: ThreadId, m: ObjectId, e: Entry, threads: [Thread; THREADS]) -> [Thread; THREADS]
+pub fn retake(t: ThreadId, m: ObjectId, e: Entry, threads: [Thread; THREADS]) -> [Thread; THREADS]
     ensures { λ r. ⌜ r ≡ retake t m e threads ⌝ }
 {
     let s = e.mutex;
@@ -78,7 +78,7 @@ fn dependence(t: ThreadId, action: Action, e: Entry, x: Thread) -> Clock
 }
 
 // An announced operation: its access is recorded, it is no longer announced, and takes effect.
-fn operate(t: ThreadId, op: Op, turn: u16, e: Entry, threads: [Thread; THREADS]) -> Effect
+pub fn operate(t: ThreadId, op: Op, turn: u16, e: Entry, threads: [Thread; THREADS]) -> Effect
     ensures { λ r. ⌜ r ≡ operate t op turn e threads ⌝ }
 {
     let call = op.call;
@@ -101,14 +101,14 @@ fn operate(t: ThreadId, op: Op, turn: u16, e: Entry, threads: [Thread; THREADS])
     )
 }
 
-fn one_more(n: u8) -> u8
+pub fn one_more(n: u8) -> u8
     ensures { λ r. ⌜ r ≡ risen 255 n ⌝ }
 {
     if n < 255 { n + 1 } else { n }
 }
 
 // One more operation is done.
-fn advance(t: ThreadId, threads: [Thread; THREADS]) -> [Thread; THREADS]
+pub fn advance(t: ThreadId, threads: [Thread; THREADS]) -> [Thread; THREADS]
     ensures { λ r. ⌜ r ≡ advance t threads ⌝ }
 {
     let mut x = get(threads, t);
@@ -117,7 +117,7 @@ fn advance(t: ThreadId, threads: [Thread; THREADS]) -> [Thread; THREADS]
 }
 
 // No operation is left.
-fn ended(t: ThreadId, threads: [Thread; THREADS]) -> [Thread; THREADS]
+pub fn ended(t: ThreadId, threads: [Thread; THREADS]) -> [Thread; THREADS]
     ensures { λ r. ⌜ r ≡ ended t threads ⌝ }
 {
     let x = with_state(get(threads, t), State::Ended);
@@ -137,7 +137,7 @@ fn park(t: ThreadId, m: ObjectId, e: Entry, threads: [Thread; THREADS]) -> [Thre
 }
 
 // A condvar wait, once it is queued: the mutex is released, and the thread parks.
-fn wait(t: ThreadId, m: ObjectId, e: Entry, threads: [Thread; THREADS]) -> Effect
+pub fn wait(t: ThreadId, m: ObjectId, e: Entry, threads: [Thread; THREADS]) -> Effect
     ensures { λ r. ⌜ r ≡ wait t m e threads ⌝ }
 {
     let s = e.mutex;

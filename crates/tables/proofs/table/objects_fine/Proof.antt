@@ -1,0 +1,33 @@
+-- `table::objects_fine` meets its contract.
+use mathlib.Core.Path.{sym, _∙_, ap}
+use Rattle.rules.specs.Table.{isKind, objectsFine}
+use borrow.Author.Needs.{needs}
+use Rattle.tables.proofs.table.objects_fine.Statement.{statement}
+use Rattle.tables.proofs.table.objects_fine.Tie as tie
+
+kind-of-requires : tie.Need-kind-of-requires
+kind-of-requires c κs = search needs
+
+is-kind-requires : tie.Need-is-kind-requires
+is-kind-requires c κs = search needs
+
+mutex-fine-requires : tie.Need-mutex-fine-requires
+mutex-fine-requires c κs = search needs
+
+returns : tie.Need-returns
+unfolding objectsFine
+returns c =
+    let a = c .before .before .before .before .before .args in
+    let fine = sym (c .before .before .is-kind .ensures ∙ ap (isKind (a .objects) (a .op .object)) (c .before .before .before .kind-of .ensures)) ∙ c .before .if1 .taken in
+    c .mutex-fine .ensures ∙ rw (objectsFine, fine)
+
+returns-2 : tie.Need-returns-2
+unfolding objectsFine
+returns-2 c =
+    let a = c .before .before .before .before .args in
+    let wrong = sym (c .before .is-kind .ensures ∙ ap (isKind (a .objects) (a .op .object)) (c .before .before .kind-of .ensures)) ∙ c .if1 .left in
+    rw (objectsFine, wrong)
+
+pub objects-fine-spec : {M : Type 1} → statement M
+objects-fine-spec =
+    tie.close (tie.spec kind-of-requires is-kind-requires mutex-fine-requires returns returns-2)
