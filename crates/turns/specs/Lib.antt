@@ -1,1 +1,4 @@
 pub mod Step
+pub mod Run
+pub mod RunLaws
+pub mod Running

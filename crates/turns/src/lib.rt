@@ -2,5 +2,6 @@
 mod after;
 mod announce;
 mod effect;
+pub mod run;
 mod step;
 mod turn;

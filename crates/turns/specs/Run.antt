@@ -1,0 +1,139 @@
+-- A list of decisions, run step by step: who acts, what that means for the turn of document 01, and what is left of the list's judgement.
+use mathlib.Core.Path.{_≡_}
+use mathlib.Core.Bool.{Bool, true, false}
+use mathlib.Core.List.{List}
+use Prim.Native.Nat.{ℕ, _+_, _-_, _*_}
+use lib.Dec.{eqb, ltb, leb}
+use lib.ListN.{length, getD, drop}
+use Rattle.clocks.specs.declared.thread.ThreadId.{ThreadId}
+use Rattle.lists.specs.Rules.{Outcome}
+use Rattle.lists.specs.Rules as outcome
+use Rattle.lists.specs.Judge.{Judged, notAllowed, surplus, unfinished, verdict, judgeEnd, judge}
+use Rattle.rules.specs.declared.object.ObjectId.{ObjectId}
+use Rattle.rules.specs.declared.object.Entry.{Entry}
+use Rattle.rules.specs.declared.thread.Thread.{Thread}
+use Rattle.rules.specs.declared.table.Op.{Op}
+use Rattle.rules.specs.declared.table.Table.{Table}
+use Rattle.rules.specs.declared.answer.Answer.{Answer}
+use Rattle.rules.specs.declared.answer.Answer.the-variants.{Deadlock}
+use Rattle.rules.specs.declared.world.Asked.{Asked}
+use Rattle.rules.specs.declared.world.Asked.the-variants as asked
+use Rattle.rules.specs.declared.world.World.{World}
+use Rattle.rules.specs.declared.world.Decided.{Decided}
+use Rattle.rules.specs.Ground.{threadAt, isRunnable}
+use Rattle.rules.specs.Object.{putEntry}
+use Rattle.rules.specs.Table.{noOp, opsOf}
+use Rattle.rules.specs.Turn.{threadIn, entryIn, wants, done, afterTurn, allEnded, anyRunnable, leakCheck, stuck, settled, wait, goOn, turnOf, question, opsLeft}
+use Rattle.rules.specs.Judge.{Verdict, outcomeOf, step}
+use Rattle.turns.specs.declared.step.Move.{Move}
+use Rattle.turns.specs.declared.step.Move.the-variants.{Begins, Answers, Goes, Waits}
+use Rattle.turns.specs.declared.step.Deed.{Deed}
+use Rattle.turns.specs.declared.step.Acting.{Acting}
+use Rattle.turns.specs.declared.step.Acting.the-variants.{Nobody, Moves, Does, Over, AllEnded, Done}
+use Rattle.turns.specs.declared.step.Scene.{Scene}
+use Rattle.turns.specs.declared.step.Moved.{Moved}
+use Rattle.turns.specs.declared.run.End.the-variants as end
+use Rattle.turns.specs.declared.run.Ran.{Ran}
+
+-- where the operation at position p of a thread stands among the table's; 192 if there is none
+abbrev pub placeAt : List ℕ → ThreadId → ℕ → ℕ
+placeAt counts t p = elim (ltb p (getD counts (t .0) 0)) [ true ↦ 32 * t .0 + p | false ↦ 192 ]
+
+abbrev pub placeOf : List ℕ → List Thread → Move → ℕ
+placeOf counts ts (Begins t) = placeAt counts t (threadAt ts t .position)
+placeOf counts ts (Answers t b) = placeAt counts t (threadAt ts t .position)
+placeOf counts ts (Goes t p) = placeAt counts t p
+placeOf counts ts (Waits t o) = 192
+
+-- a move with its operation
+abbrev pub deedOf : Table → List Thread → Move → Deed
+deedOf table ts m = let k = placeOf (table .counts) ts m in record { moves = m; left = ltb k 192; op = getD (table .ops) k noOp }
+
+-- the world as a step about the object o sees it, and the world with what the step leaves
+abbrev pub sceneOf : World → ObjectId → Scene
+sceneOf w o = record { entry = entryIn w o; threads = w .threads; turn = w .turn; asked = w .asked }
+
+abbrev pub worldOf : World → ObjectId → Scene → World
+worldOf w o s = record { threads = s .threads; objects = putEntry (w .objects) o (s .entry); turn = s .turn; asked = s .asked }
+
+-- "naming a runnable thread, else 23", and "0 or 1 (else 23)"
+abbrev pub isAllowed : Asked → List Thread → ℕ → Bool
+isAllowed asked.Nobody ts d = isRunnable (threadAt ts (record { 0 = d }) .state)
+isAllowed (asked.Thread t) ts d = leb d 1
+
+abbrev pub chosen : Asked → ℕ → Move
+chosen asked.Nobody d = Begins (record { 0 = d })
+chosen (asked.Thread t) d = Answers t (eqb d 1)
+
+-- who acts after a turn
+unfoldable pub after : List Thread → Acting
+after ts = elim (allEnded ts) [ true ↦ AllEnded | false ↦ elim (anyRunnable ts) [ true ↦ Nobody | false ↦ Done (Deadlock (stuck 0 ts)) ] ]
+
+abbrev pub flag : Bool → ℕ
+flag true = 1
+flag false = 0
+
+-- what a move comes to by document 01
+unfoldable pub movedBy : Table → Move → World → Decided
+movedBy table (Begins t) w = turnOf (threadIn w t .phase) t (opsLeft table w t) w
+movedBy table (Answers t b) w = question t (getD (opsLeft table w t) 0 noOp) (flag b) w
+movedBy table (Goes t p) w = goOn t (drop p (opsOf table (t .0))) w
+movedBy table (Waits t m) w = afterTurn (settled w m (wait t m (entryIn w m) (w .threads)))
+
+unfoldable pub decided : Table → Acting → World → Decided
+decided table Nobody w = wants w
+decided table (Moves m) w = movedBy table m w
+decided table (Does x) w = movedBy table (x .moves) w
+decided table Over w = afterTurn w
+decided table AllEnded w = done (leakCheck 0 (w .objects)) w
+decided table (Done a) w = done a w
+
+-- a deed is the one of its move
+abbrev pub Fits : Table → List Thread → Acting → Type 0
+Fits table ts Nobody = Unit {0}
+Fits table ts (Moves m) = Unit {0}
+Fits table ts (Does x) = x ≡ deedOf table ts (x .moves)
+Fits table ts Over = Unit {0}
+Fits table ts AllEnded = Unit {0}
+Fits table ts (Done a) = Unit {0}
+
+-- the judgement of what is left of the list from `at` on, after the outcome of the decision before it
+abbrev pub onwards : Table → List ℕ → ℕ → Outcome World Verdict → Judged World Verdict
+onwards table list at outcome.refused = notAllowed (at - 1)
+onwards table list at (outcome.done v) = judgeEnd v at (drop at list)
+onwards table list at (outcome.wants w) = judge (step table) at w (drop at list)
+
+unfoldable pub rest : Table → List ℕ → ℕ → Acting → World → Judged World Verdict
+rest table list at a w = let r = decided table a w in onwards table list at (outcomeOf (r .step) (r .world))
+
+-- what holds from step to step: the judgement of the whole list is that of what is left
+pub record Running (table : Table) (list : List ℕ) (given : World) (threads : List Thread) (objects : List Entry) (turn : ℕ) (who : Asked) (acting : Acting) (at : ℕ) : Type 0 where
+  pub judged : judge (step table) 0 given list ≡ rest table list at acting (record { threads = threads; objects = objects; turn = turn; asked = who })
+  pub fits : Fits table threads acting
+  pub all : length objects ≡ 16
+
+-- how many steps may follow in a turn: a number that falls with each
+abbrev pub moveWeight : Move → ℕ
+moveWeight (Begins t) = 1000
+moveWeight (Answers t b) = 1000
+moveWeight (Goes t p) = 2 * (300 - p) + 6
+moveWeight (Waits t o) = 4
+
+abbrev pub weight : Acting → ℕ
+weight Nobody = 0
+weight (Moves m) = moveWeight m
+weight (Does x) = moveWeight (x .moves) - 1
+weight Over = 2
+weight AllEnded = 1
+weight (Done a) = 0
+
+-- a verdict at `at` of a list of n
+unfoldable pub endAt : Answer → ℕ → ℕ → World → World → Ran
+endAt a at n given reached = elim (ltb at n) [ true ↦ record { end = end.Surplus at; world = given } | false ↦ record { end = end.Verdict a; world = reached } ]
+
+-- a judgement as the code hands it back; a refusal comes with the world that was given
+unfoldable pub ranOf : World → Judged World Verdict → Ran
+ranOf w (notAllowed i) = record { end = end.NotAllowed i; world = w }
+ranOf w (surplus i) = record { end = end.Surplus i; world = w }
+ranOf w (unfinished v) = record { end = end.Unfinished; world = v }
+ranOf w (verdict v) = record { end = end.Verdict (v .answer); world = v .world }

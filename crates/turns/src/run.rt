@@ -1,0 +1,239 @@
+// A list of decisions, run from a world. The store of objects stays in its place: a step takes one object out and puts it back.
+ghost use mathlib.Core.Path.{_≡_};
+ghost use Rattle.lists.specs.Judge.{judge};
+ghost use Rattle.rules.specs.Judge.{step};
+ghost use Rattle.rules.specs.Object.{newEntry, noObject};
+ghost use Rattle.rules.specs.Table.{noOp};
+ghost use Rattle.turns.specs.Run.{placeAt, placeOf, isAllowed, chosen, after, endAt, ranOf};
+use crate::after::all_ended;
+use crate::after::any_runnable;
+use crate::after::leak_check;
+use crate::after::stuck;
+use crate::step::Acting;
+use crate::step::Deed;
+use crate::step::Move;
+use crate::step::Scene;
+use crate::step::act;
+use crate::step::subject;
+use clocks::THREADS;
+use clocks::ThreadId;
+use objects::object::new_entry;
+use objects::thread::get;
+use objects::thread::is_runnable;
+use rules::answer::Answer;
+use rules::mutex;
+use rules::object::Entry;
+use rules::object::Kind;
+use rules::object::OBJECTS;
+use rules::object::ObjectId;
+use rules::table::Call;
+use rules::table::Made;
+use rules::table::Op;
+use rules::table::Table;
+use rules::thread::Thread;
+use rules::world::Asked;
+use rules::world::World;
+
+// How a list ends.
+pub enum End {
+    NotAllowed(usize),
+    Surplus(usize),
+    Unfinished,
+    Verdict(Answer),
+}
+
+// A refusal comes with the world that was given.
+pub struct Ran {
+    pub end: End,
+    pub world: World,
+}
+
+// Where the operation at position p of a thread stands among the table's; 192 if there is none.
+fn place_at(counts: [u8; THREADS], t: ThreadId, p: u8) -> usize
+    ensures { λ r. ⌜ r ≡ placeAt counts t p ⌝ }
+{
+    let i = t.0 as usize;
+    if i < THREADS {
+        if p < counts[i] {
+            return 32 * i + (p as usize);
+        }
+    }
+    192
+}
+
+fn place_of(counts: [u8; THREADS], threads: [Thread; THREADS], m: Move) -> usize
+    ensures { λ r. ⌜ r ≡ placeOf counts threads m ⌝ }
+{
+    match m {
+        Move::Begins(t) => place_at(counts, t, get(threads, t).position),
+        Move::Answers(t, _) => place_at(counts, t, get(threads, t).position),
+        Move::Goes(t, p) => place_at(counts, t, p),
+        Move::Waits(_, _) => 192,
+    }
+}
+
+fn no_op() -> Op
+    ensures { λ r. ⌜ r ≡ noOp ⌝ }
+{
+    Op {
+        call: Call::Mutex(mutex::Call::AcquireLock),
+        object: ObjectId(0),
+    }
+}
+
+fn no_entry() -> Entry
+    ensures { λ r. ⌜ r ≡ newEntry noObject ⌝ }
+{
+    new_entry(Made {
+        kind: Kind::Nothing,
+        spurious: false,
+    })
+}
+
+// Who acts after a turn.
+fn after(threads: [Thread; THREADS]) -> Acting
+    ensures { λ r. ⌜ r ≡ after threads ⌝ }
+{
+    if all_ended(threads) {
+        return Acting::AllEnded;
+    }
+    if any_runnable(threads) {
+        return Acting::Nobody;
+    }
+    Acting::Done(Answer::Deadlock(stuck(threads)))
+}
+
+// A decision names a runnable thread, or answers the question with 0 or 1.
+pub fn is_allowed(asked: Asked, threads: [Thread; THREADS], d: u8) -> bool
+    ensures { λ r. ⌜ r ≡ isAllowed asked threads d ⌝ }
+{
+    match asked {
+        Asked::Nobody => {
+            let x = get(threads, ThreadId(d));
+            let state = x.state;
+            is_runnable(state)
+        }
+        Asked::Thread(_) => d <= 1,
+    }
+}
+
+fn chosen(asked: Asked, d: u8) -> Move
+    ensures { λ r. ⌜ r ≡ chosen asked d ⌝ }
+{
+    match asked {
+        Asked::Nobody => Move::Begins(ThreadId(d)),
+        Asked::Thread(t) => Move::Answers(t, d == 1),
+    }
+}
+
+fn verdict(a: Answer, at: usize, n: usize, given: World, reached: World) -> Ran
+    ensures { λ r. ⌜ r ≡ endAt a at n given reached ⌝ }
+{
+    if at < n {
+        return Ran {
+            end: End::Surplus(at),
+            world: given,
+        };
+    }
+    Ran {
+        end: End::Verdict(a),
+        world: reached,
+    }
+}
+
+pub fn run(table: Table, world: World, list: &[u8]) -> Ran
+    ensures { λ r. ⌜ r ≡ ranOf world (judge (step table) 0 world (now (list .entry))) ⌝ }
+{
+    let ops = table.ops;
+    let mut threads = world.threads;
+    let mut objects = world.objects;
+    let mut turn = world.turn;
+    let mut asked = world.asked;
+    let mut acting = Acting::Nobody;
+    let mut at = 0;
+    loop {
+        match acting {
+            Acting::Nobody => {
+                if at >= list.len() {
+                    return Ran {
+                        end: End::Unfinished,
+                        world: World {
+                            threads: threads,
+                            objects: objects,
+                            turn: turn,
+                            asked: asked,
+                        },
+                    };
+                }
+                let d = list[at];
+                if !is_allowed(asked, threads, d) {
+                    return Ran {
+                        end: End::NotAllowed(at),
+                        world: world,
+                    };
+                }
+                acting = Acting::Moves(chosen(asked, d));
+                at += 1;
+            }
+            Acting::Moves(m) => {
+                let counts = table.counts;
+                let k = place_of(counts, threads, m);
+                acting = if k < 192 {
+                    Acting::Does(Deed {
+                        moves: m,
+                        left: true,
+                        op: ops[k],
+                    })
+                } else {
+                    Acting::Does(Deed {
+                        moves: m,
+                        left: false,
+                        op: no_op(),
+                    })
+                };
+            }
+            Acting::Does(x) => {
+                let moves = x.moves;
+                let op = x.op;
+                let o = subject(threads, moves, op).0 as usize;
+                let e = if o < OBJECTS { objects[o] } else { no_entry() };
+                let scene = Scene {
+                    entry: e,
+                    threads: threads,
+                    turn: turn,
+                    asked: asked,
+                };
+                let moved = act(moves, x.left, op, scene);
+                let s = moved.scene;
+                let entry = s.entry;
+                acting = moved.acting;
+                threads = s.threads;
+                turn = s.turn;
+                asked = s.asked;
+                if o < OBJECTS {
+                    objects[o] = entry;
+                }
+            }
+            Acting::Over => {
+                acting = after(threads);
+            }
+            Acting::AllEnded => {
+                acting = Acting::Done(leak_check(objects));
+            }
+            Acting::Done(a) => {
+                return verdict(
+                    a,
+                    at,
+                    list.len(),
+                    world,
+                    World {
+                        threads: threads,
+                        objects: objects,
+                        turn: turn,
+                        asked: asked,
+                    },
+                );
+            }
+        }
+    }
+}
