@@ -14,7 +14,7 @@ use rules::thread::State;
 use rules::thread::Thread;
 
 // A thread that a table does not have.
-pub(crate) fn absent() -> Thread
+pub fn absent() -> Thread
     ensures { λ r. ⌜ r ≡ absent ⌝ }
 {
     Thread {

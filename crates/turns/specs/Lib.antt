@@ -2,3 +2,4 @@ pub mod Step
 pub mod Run
 pub mod RunLaws
 pub mod Running
+pub mod Start

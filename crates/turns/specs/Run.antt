@@ -5,6 +5,7 @@ use mathlib.Core.List.{List}
 use Prim.Native.Nat.{ℕ, _+_, _-_, _*_}
 use lib.Dec.{eqb, ltb, leb}
 use lib.ListN.{length, getD, drop}
+use lib.Seq.{sets}
 use Rattle.clocks.specs.declared.thread.ThreadId.{ThreadId}
 use Rattle.lists.specs.Rules.{Outcome}
 use Rattle.lists.specs.Rules as outcome
@@ -15,7 +16,7 @@ use Rattle.rules.specs.declared.thread.Thread.{Thread}
 use Rattle.rules.specs.declared.table.Op.{Op}
 use Rattle.rules.specs.declared.table.Table.{Table}
 use Rattle.rules.specs.declared.answer.Answer.{Answer}
-use Rattle.rules.specs.declared.answer.Answer.the-variants.{Deadlock}
+use Rattle.rules.specs.declared.answer.Answer.the-variants.{Deadlock, More, NotAllowed, Surplus}
 use Rattle.rules.specs.declared.world.Asked.{Asked}
 use Rattle.rules.specs.declared.world.Asked.the-variants as asked
 use Rattle.rules.specs.declared.world.World.{World}
@@ -24,7 +25,8 @@ use Rattle.rules.specs.Ground.{threadAt, isRunnable}
 use Rattle.rules.specs.Object.{putEntry}
 use Rattle.rules.specs.Table.{noOp, opsOf}
 use Rattle.rules.specs.Turn.{threadIn, entryIn, wants, done, afterTurn, allEnded, anyRunnable, leakCheck, stuck, settled, wait, goOn, turnOf, question, opsLeft}
-use Rattle.rules.specs.Judge.{Verdict, outcomeOf, step}
+use Rattle.rules.specs.Judge.{Verdict, outcomeOf, step, Given, untouched}
+use Rattle.rules.specs.Sheet.{sheetOf}
 use Rattle.turns.specs.declared.step.Move.{Move}
 use Rattle.turns.specs.declared.step.Move.the-variants.{Begins, Answers, Goes, Waits}
 use Rattle.turns.specs.declared.step.Deed.{Deed}
@@ -32,6 +34,7 @@ use Rattle.turns.specs.declared.step.Acting.{Acting}
 use Rattle.turns.specs.declared.step.Acting.the-variants.{Nobody, Moves, Does, Over, AllEnded, Done}
 use Rattle.turns.specs.declared.step.Scene.{Scene}
 use Rattle.turns.specs.declared.step.Moved.{Moved}
+use Rattle.turns.specs.declared.run.End.{End}
 use Rattle.turns.specs.declared.run.End.the-variants as end
 use Rattle.turns.specs.declared.run.Ran.{Ran}
 
@@ -137,3 +140,10 @@ ranOf w (notAllowed i) = record { end = end.NotAllowed i; world = w }
 ranOf w (surplus i) = record { end = end.Surplus i; world = w }
 ranOf w (unfinished v) = record { end = end.Unfinished; world = v }
 ranOf w (verdict v) = record { end = end.Verdict (v .answer); world = v .world }
+
+-- what a run shows: the sheet of the world it hands back, unless it was refused
+unfoldable pub showing : Table → End → World → List ℕ → Given
+showing table (end.NotAllowed i) w buffer = untouched (NotAllowed i) buffer
+showing table (end.Surplus i) w buffer = untouched (Surplus i) buffer
+showing table end.Unfinished w buffer = record { answer = More; buffer = sets buffer 0 (sheetOf table w) }
+showing table (end.Verdict a) w buffer = record { answer = a; buffer = sets buffer 0 (sheetOf table w) }

@@ -2,6 +2,7 @@
 mod after;
 mod announce;
 mod effect;
+pub mod judge;
 pub mod run;
 mod step;
 mod turn;

@@ -1,0 +1,73 @@
+-- The start, and what a run shows, as the code makes them.
+use mathlib.Core.Path.{_≡_, refl, sym, _∙_, ap}
+use mathlib.Core.List.{List, map}
+use Prim.Native.Nat.{ℕ, _≤_, _<_}
+use native.Mathlib.Omega.{arith}
+use lib.ListN.{length, getD, length-map, List·getD-map}
+use lib.Seq.{ext-getD}
+use borrow.Author.Tests.{le-leb, lt-leb}
+use Rattle.clocks.specs.Pass.{passFrom, pass-length, pass-at}
+use Rattle.lists.specs.Judge.{Judged, notAllowed, surplus, unfinished, verdict, judge}
+use Rattle.rules.specs.declared.object.Entry.{Entry}
+use Rattle.rules.specs.declared.table.Made.{Made}
+use Rattle.rules.specs.declared.table.Table.{Table}
+use Rattle.rules.specs.declared.table.Taken.the-variants.{Accepted, Refused}
+use Rattle.rules.specs.declared.table.TableRead.{TableRead}
+use Rattle.rules.specs.declared.answer.Answer.{Answer}
+use Rattle.rules.specs.declared.answer.Answer.the-variants.{More, TooShort}
+use Rattle.rules.specs.declared.world.World.{World}
+use Rattle.rules.specs.Object.{noObject, newEntry}
+use Rattle.rules.specs.Sheet.{sheetLength}
+use Rattle.rules.specs.SheetLaws.{sheet-over}
+use Rattle.rules.specs.Judge.{Verdict, step, untouched, shown, judgeTable, judgeOf}
+use Rattle.rules.specs.Table.{Read, refused, accepted, readTable, readOf}
+use Rattle.rules.specs.Turn.{start}
+use Rattle.turns.specs.Run.{ranOf, showing}
+
+-- the objects are made in a pass over the store
+abbrev pub madeAt : List Made → ℕ → Entry → Entry
+madeAt ms k e = newEntry (getD ms k noObject)
+
+pub made-all : (ms : List Made) (es : List Entry) → length es ≡ length ms → passFrom (madeAt ms) 0 es ≡ map newEntry ms
+made-all ms es h =
+    let same = pass-length (madeAt ms) 0 es in
+    ext-getD (newEntry noObject) (passFrom (madeAt ms) 0 es) (map newEntry ms) (same ∙ h ∙ sym (length-map ms newEntry))
+    (λ i l. pass-at (madeAt ms) i es (newEntry noObject) (omega (arith, same, l)) ∙ sym (List·getD-map newEntry ms i noObject))
+
+-- where the buffer has room for the sheet, what a run shows is what its judgement shows
+pub shows : (table : Table) (w : World) (buffer : List ℕ) → sheetLength table ≤ length buffer
+    → (j : Judged World Verdict) → showing table (ranOf w j .end) (ranOf w j .world) buffer ≡ shown table j buffer
+unfolding showing shown ranOf
+shows table w buffer h (notAllowed i) = refl
+shows table w buffer h (surplus i) = refl
+shows table w buffer h (unfinished v) = λ i. record { answer = More; buffer = sheet-over buffer table v h i }
+shows table w buffer h (verdict v) = λ i. record { answer = v .answer; buffer = sheet-over buffer table (v .world) h i }
+
+-- what the table's reader hands back, and what the whole call then comes to
+module _ (list buffer : List ℕ) where
+  refused-at : (r : Read) (a : Answer) → readOf r .taken ≡ Refused a → untouched a buffer ≡ judgeTable r list buffer
+  unfolding judgeTable
+  refused-at (refused b) a e = let same : b ≡ a = cc in ap (λ (x : Answer). untouched x buffer) (sym same)
+  refused-at (accepted t) a e = let q : _≡_ {A = ℕ} 0 1 = cc in absurd (omega arith)
+
+  accepted-at : (r : Read) → readOf r .taken ≡ Accepted → r ≡ accepted (readOf r .table)
+  accepted-at (refused b) e = let q : _≡_ {A = ℕ} 0 1 = cc in absurd (omega arith)
+  accepted-at (accepted t) e = refl
+
+  module _ (bs : List ℕ) (read : TableRead) (e : read ≡ readOf (readTable bs)) where
+    pub judged-refused : (a : Answer) → read .taken ≡ Refused a → untouched a buffer ≡ judgeOf bs list buffer
+    unfolding judgeOf
+    judged-refused a t = refused-at (readTable bs) a (ap (λ (x : TableRead). x .taken) (sym e) ∙ t)
+
+    taken-table : read .taken ≡ Accepted → readTable bs ≡ accepted (read .table)
+    taken-table t = accepted-at (readTable bs) (ap (λ (x : TableRead). x .taken) (sym e) ∙ t) ∙ ap (λ (x : TableRead). accepted (x .table)) (sym e)
+
+    pub judged-short : read .taken ≡ Accepted → length buffer < sheetLength (read .table) → untouched (TooShort (sheetLength (read .table))) buffer ≡ judgeOf bs list buffer
+    unfolding judgeOf judgeTable
+    judged-short t h =
+        sym (ap (λ (r : Read). judgeTable r list buffer) (taken-table t) ∙ rw (judgeTable, lt-leb (sheetLength (read .table)) (length buffer) h))
+
+    pub judged-shown : read .taken ≡ Accepted → sheetLength (read .table) ≤ length buffer
+        → shown (read .table) (judge (step (read .table)) 0 (start (read .table)) list) buffer ≡ judgeOf bs list buffer
+    unfolding judgeOf judgeTable
+    judged-shown t h = sym (ap (λ (r : Read). judgeTable r list buffer) (taken-table t) ∙ rw (judgeTable, le-leb (sheetLength (read .table)) (length buffer) h))

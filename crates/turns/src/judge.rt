@@ -1,0 +1,118 @@
+// A table and a list are judged, and the sheet is written.
+ghost use mathlib.Core.Path.{_≡_};
+ghost use mathlib.Core.List.{map};
+ghost use lib.ListN.{replicate};
+ghost use Rattle.clocks.specs.Pass.{passFrom};
+ghost use Rattle.rules.specs.Ground.{absent};
+ghost use Rattle.rules.specs.Object.{newEntry};
+ghost use Rattle.rules.specs.Turn.{startThread, start};
+ghost use Rattle.rules.specs.Judge.{judgeOf};
+ghost use Rattle.turns.specs.Run.{showing};
+use crate::run::End;
+use crate::run::run;
+use clocks::THREADS;
+use objects::object::new_entry;
+use objects::thread::absent;
+use objects::thread::with_state;
+use rules::answer::Answer;
+use rules::object::Entry;
+use rules::object::Kind;
+use rules::object::OBJECTS;
+use rules::table::Made;
+use rules::table::Table;
+use rules::table::Taken;
+use rules::thread::State;
+use rules::thread::Thread;
+use rules::world::Asked;
+use rules::world::World;
+use tables::sheet::sheet_length;
+use tables::sheet::write_sheet;
+use tables::table::read_table;
+
+// The first n threads are there, and stand at the start.
+fn start_thread(n: u8, k: usize, t: Thread) -> Thread
+    ensures { λ r. ⌜ r ≡ startThread n k t ⌝ }
+{
+    if k < (n as usize) {
+        with_state(t, State::Runnable)
+    } else {
+        t
+    }
+}
+
+fn start_threads(n: u8) -> [Thread; THREADS]
+    ensures { λ r. ⌜ r ≡ passFrom (startThread n) 0 (replicate 6 absent) ⌝ }
+{
+    let nobody = absent();
+    let mut out = [nobody; THREADS];
+    for k in 0..THREADS {
+        let t = out[k];
+        out[k] = start_thread(n, k, t);
+    }
+    out
+}
+
+fn start_objects(objects: [Made; OBJECTS]) -> [Entry; OBJECTS]
+    ensures { λ r. ⌜ r ≡ map newEntry objects ⌝ }
+{
+    let nothing = new_entry(Made {
+        kind: Kind::Nothing,
+        spurious: false,
+    });
+    let mut out = [nothing; OBJECTS];
+    for k in 0..OBJECTS {
+        let made = objects[k];
+        out[k] = new_entry(made);
+    }
+    out
+}
+
+// The world before any decision.
+pub fn start(table: Table) -> World
+    ensures { λ r. ⌜ r ≡ start table ⌝ }
+{
+    let objects = table.objects;
+    World {
+        threads: start_threads(table.thread_count),
+        objects: start_objects(objects),
+        turn: 0,
+        asked: Asked::Nobody,
+    }
+}
+
+// What a run comes to: its answer, and the sheet unless it was refused.
+fn show(table: Table, end: End, world: World, sheet: &mut [u8]) -> Answer
+    ensures { λ r. ⌜ record { answer = r; buffer = now (sheet .exit) } ≡ showing table end world (now (sheet .entry)) ⌝ }
+{
+    match end {
+        End::NotAllowed(i) => Answer::NotAllowed(i),
+        End::Surplus(i) => Answer::Surplus(i),
+        End::Unfinished => {
+            write_sheet(table, world, sheet);
+            Answer::More
+        }
+        End::Verdict(a) => {
+            write_sheet(table, world, sheet);
+            a
+        }
+    }
+}
+
+pub fn judge(table: &[u8], list: &[u8], sheet: &mut [u8]) -> Answer
+    ensures { λ r. ⌜ record { answer = r; buffer = now (sheet .exit) } ≡ judgeOf (now (table .entry)) (now (list .entry)) (now (sheet .entry)) ⌝ }
+{
+    let read = read_table(table);
+    let taken = read.taken;
+    let t = read.table;
+    if let Taken::Refused(a) = taken {
+        return a;
+    }
+    let needed = sheet_length(t);
+    if sheet.len() < needed {
+        return Answer::TooShort(needed);
+    }
+    let ran = run(t, start(t), list);
+    let end = ran.end;
+    let world = ran.world;
+    show(t, end, world, sheet)
+}
