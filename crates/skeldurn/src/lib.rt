@@ -1,0 +1,35 @@
+// The calls for C and Rust.
+ghost use mathlib.Core.Path.{_≡_};
+ghost use Rattle.rules.specs.Answer.{numbersOf};
+ghost use Rattle.rules.specs.Judge.{judgeOf};
+ghost use Rattle.skeldurn.specs.Word.{wordOf};
+use rules::answer::Answer;
+use rules::answer::Numbers;
+use tables::answer::numbers;
+use turns::judge::judge;
+
+fn wide(n: u8) -> u64
+    ensures { λ r. ⌜ r ≡ n ⌝ }
+{
+    n as u64
+}
+
+// An answer in one word: number, place, thread, position, object, other from the lowest bit on.
+fn word(n: Numbers) -> u64
+    ensures { λ r. ⌜ r ≡ wordOf n ⌝ }
+{
+    let place = (n.place % 65536) as u64;
+    let low = wide(n.number) + 256 * place + 16777216 * wide(n.thread);
+    let high = 4294967296 * wide(n.position) + 1099511627776 * wide(n.object);
+    low + high + 281474976710656 * (n.other as u64)
+}
+
+// Judges a list: the answer in one word, and the sheet.
+#[no_mangle]
+pub extern "C" fn skeldurn_judge(table: &[u8], list: &[u8], sheet: &mut [u8]) -> u64
+    ensures { λ r. ⌜ r ≡ wordOf (numbersOf (judgeOf (now (table .entry)) (now (list .entry)) (now (sheet .entry)) .answer)) ⌝ }
+    ensures { λ _. ⌜ now (sheet .exit) ≡ judgeOf (now (table .entry)) (now (list .entry)) (now (sheet .entry)) .buffer ⌝ }
+{
+    let answer = judge(table, list, sheet);
+    word(numbers(answer))
+}
