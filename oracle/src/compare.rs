@@ -3,6 +3,7 @@
 use std::fmt;
 
 use crate::answer::{Answer, Machine, Step};
+use crate::archive;
 use crate::families::families;
 use crate::judge::Oracle;
 use crate::plain::{self, Plain, Slip, World};
@@ -47,6 +48,7 @@ pub struct Difference {
     length: usize,
     oracle: String,
     plain: String,
+    archive: String,
 }
 
 #[derive(Clone, Copy, PartialEq, Debug)]
@@ -58,10 +60,11 @@ enum Call {
 
 impl fmt::Display for Difference {
     fn fmt(&self, out: &mut fmt::Formatter<'_>) -> fmt::Result {
-        let Difference { call, table, list, length, oracle, plain } = self;
+        let Difference { call, table, list, length, oracle, plain, archive } = self;
         writeln!(out, "{call:?}: table {} list {} length {length}", hex(table), hex(list))?;
         writeln!(out, "  oracle {oracle}")?;
-        write!(out, "  plain  {plain}")
+        writeln!(out, "  plain  {plain}")?;
+        write!(out, "  archive {archive}")
     }
 }
 
@@ -101,7 +104,11 @@ impl Comparison {
                 (self.oracle.next(table, list, length), self.plain.next(table, list, length))
             }
         };
-        if oracle == plain {
+        let archive = match call {
+            Call::Judge => archive::judge(table, list, length, oracle.1.len()),
+            Call::First | Call::Next => None,
+        };
+        if oracle == plain && archive.as_ref().is_none_or(|archive| *archive == oracle) {
             return Ok(());
         }
         Err(Box::new(Difference {
@@ -111,6 +118,7 @@ impl Comparison {
             length,
             oracle: said(&oracle),
             plain: said(&plain),
+            archive: archive.as_ref().map_or("not built in".to_string(), said),
         }))
     }
 

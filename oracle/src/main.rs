@@ -21,6 +21,7 @@ macro_rules! dbg {
 }
 
 mod answer;
+mod archive;
 mod compare;
 mod emit;
 mod examples;
@@ -209,6 +210,13 @@ fn speed(tables: usize) {
     let plain = Plain { slip: Slip::None };
     timed("oracle", &cases, &mut |table, list| oracle.judge(table, list, ENOUGH_ROOM));
     timed("plain", &cases, &mut |table, list| plain.judge(table, list, ENOUGH_ROOM));
+    #[cfg(archive)]
+    {
+        let mut sheet = [0; ENOUGH_ROOM];
+        timed("archive", &cases, &mut |table, list| {
+            (archive::judge_into(table, list, &mut sheet), Vec::new())
+        });
+    }
 }
 
 type Judge<'a> = &'a mut dyn FnMut(&[u8], &[u8]) -> (Answer, Vec<u8>);

@@ -123,7 +123,7 @@ pub fn is_runnable(s: State) -> bool
     match s {
         State::Runnable => true,
         State::Unparked => true,
-        State::Blocked => false,
+        State::Blocked => false, // Until another thread wakes it.
         State::Ended => false,
     }
 }

@@ -277,8 +277,7 @@ fn free(t: ThreadId, p: u8, op: Op, s: Scene) -> Moved
     let mut scene = s;
     scene.entry = entry;
     scene.threads = after;
-    let next = advanced(scene, t, p);
-    failing(ending, t, o, s, next)
+    failing(ending, t, o, s, advanced(scene, t, p))
 }
 
 fn asking(t: ThreadId, s: Scene) -> Moved
