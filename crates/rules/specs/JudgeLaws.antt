@@ -25,13 +25,13 @@ abbrev number : Answer → ℕ
 number a = numbersOf a .number
 
 -- a verdict's number is 0 to 5
-abbrev Told : Judged World Verdict → Type 0
+abbrev pub Told : Judged World Verdict → Type 0
 Told (notAllowed i) = Unit {0}
 Told (surplus i) = Unit {0}
 Told (unfinished w) = Unit {0}
 Told (verdict v) = number (v .answer) ≤ 5
 
-judge-told : (table : Table) (i : ℕ) (w : World) (l : List ℕ) → Told (judge (step table) i w l)
+pub judge-told : (table : Table) (i : ℕ) (w : World) (l : List ℕ) → Told (judge (step table) i w l)
 unfolding judge step outcomeOf
 judge-told table i w [] = tt
 judge-told table i w (d ∷ l) = go (decide table w d .step) (verdict-number table w d) l (λ v. judge-told table (suc i) v l)

@@ -2,13 +2,15 @@
 use mathlib.Core.Path.{_≡_, refl, sym, _∙_, ap, fun-ext}
 use mathlib.Core.Bool.{Bool, true, false, _&&_, false≢true}
 use mathlib.Core.List.{List, [], _∷_}
-use Prim.Native.Nat.{ℕ, zero, suc, _+_, _≤_, _<_}
+use Prim.Native.Nat.{ℕ, zero, suc, _+_, _-_, _*_, _≤_, _<_}
 use native.Mathlib.Numerals.{add-one}
 use native.Mathlib.Omega.{arith}
 use lib.Dec.{eqb, ltb, leb}
-use lib.ListN.{length, getD, drop, length-drop, drop-of-length-le}
+use lib.ListN.{length, getD, drop, length-take, length-drop, drop-of-length-le}
 use lib.Seq.{drop-cons, drop-drop}
-use borrow.Author.Tests.{ltb-true, leb-true}
+use borrow.Author.Tests.{ltb-true, ltb-false, leb-true}
+use Rattle.clocks.specs.Clock.{risen}
+use Rattle.rules.specs.declared.table.Op.{Op}
 use Rattle.rules.specs.declared.table.Table.{Table}
 use Rattle.rules.specs.declared.table.Taken.the-variants.{Accepted, Refused}
 use Rattle.rules.specs.declared.table.TableRead.{TableRead}
@@ -16,7 +18,7 @@ use Rattle.rules.specs.declared.table.Record.{Record}
 use Rattle.rules.specs.declared.table.Record.the-variants as rec
 use Rattle.rules.specs.declared.answer.Answer.{Answer}
 use Rattle.rules.specs.declared.answer.Answer.the-variants.{BadRecord, TooMany, BadObject}
-use Rattle.rules.specs.Table.{readOf, objectRecord, threadRecord, operationRecord, isObject, isOperation, Read, refused, accepted, lastCount, objectsFine, withObject, withThread, withOp, oneRecord, atEnd, recordOf, bodyLength, emptyTable, readFrom, readTable}
+use Rattle.rules.specs.Table.{readOf, objectRecord, threadRecord, operationRecord, isObject, isOperation, Read, refused, accepted, lastCount, objectsFine, withObject, withThread, withOp, oneRecord, atEnd, recordOf, bodyLength, emptyTable, readFrom, readTable, opsOf}
 
 -- "At most 16 objects, 1 to 6 threads"
 pub record Within (t : Table) : Type 0 where
@@ -27,6 +29,26 @@ pub record Within (t : Table) : Type 0 where
 pub by-test : {A : Type 0} (P : A → Type 0) (b : Bool) {x y : A} → (b ≡ true → P x) → (b ≡ false → P y) → P (elim b [ true ↦ x | false ↦ y ])
 by-test P true p q = p refl
 by-test P false p q = q refl
+
+-- the two cases of a test
+pub split : {X : Type 0} (b : Bool) → (b ≡ true → X) → (b ≡ false → X) → X
+split true f g = f refl
+split false f g = g refl
+
+-- the operations of a thread: how many there may be, and those after the one at p, as a position that stays at its type's end counts them
+pub ops-few : (table : Table) (k : ℕ) → length (table .ops) ≡ 192 → length (opsOf table k) ≤ 192 - 32 * k
+unfolding opsOf
+ops-few table k l = omega (arith, length-take (getD (table .counts) k 0) (drop (32 * k) (table .ops)), length-drop (32 * k) (table .ops), l)
+
+pub ops-next : (table : Table) (k p : ℕ) → length (table .ops) ≡ 192 → drop (risen 255 p) (opsOf table k) ≡ drop 1 (drop p (opsOf table k))
+ops-next table k p l =
+    let os : List Op = opsOf table k in
+    let few : length os ≤ 192 - 32 * k = ops-few table k l in
+    split (ltb p 255) (λ e. let r : risen 255 p ≡ p + 1 = omega (arith, ltb-true p 255 e) in ap (λ (j : ℕ). drop j os) r ∙ sym (drop-drop 1 p os))
+    (λ e.
+    let r : length os ≤ risen 255 p = omega (arith, few, ltb-false p 255 e) in
+    let s : length os ≤ p + 1 = omega (arith, few, ltb-false p 255 e) in
+    drop-of-length-le os {i = risen 255 p} r ∙ sym (drop-drop 1 p os ∙ drop-of-length-le os {i = p + 1} s))
 
 -- what is accepted in the end is within the limits
 abbrev Ends : Read → Type 0

@@ -2,7 +2,7 @@
 ghost use mathlib.Core.Path.{_≡_};
 ghost use Rattle.rules.specs.Answer.{numbersOf};
 ghost use Rattle.rules.specs.Judge.{judgeOf};
-ghost use Rattle.skeldurn.specs.Word.{wordOf};
+ghost use Rattle.skeldurn.specs.Word.{wordOf, numbersIn};
 use rules::answer::Answer;
 use rules::answer::Numbers;
 use tables::answer::numbers;
@@ -24,10 +24,11 @@ fn word(n: Numbers) -> u64
     low + high + 281474976710656 * (n.other as u64)
 }
 
-// Judges a list: the answer in one word, and the sheet.
+// Judges a list: the answer in one word, from which all six numbers can be had again, and the sheet.
 #[no_mangle]
 pub extern "C" fn skeldurn_judge(table: &[u8], list: &[u8], sheet: &mut [u8]) -> u64
     ensures { λ r. ⌜ r ≡ wordOf (numbersOf (judgeOf (now (table .entry)) (now (list .entry)) (now (sheet .entry)) .answer)) ⌝ }
+    ensures { λ r. ⌜ numbersIn r ≡ numbersOf (judgeOf (now (table .entry)) (now (list .entry)) (now (sheet .entry)) .answer) ⌝ }
     ensures { λ _. ⌜ now (sheet .exit) ≡ judgeOf (now (table .entry)) (now (list .entry)) (now (sheet .entry)) .buffer ⌝ }
 {
     let answer = judge(table, list, sheet);

@@ -13,7 +13,6 @@ use Rattle.lists.specs.Judge.{Judged, notAllowed, surplus, unfinished, verdict,
 use Rattle.rules.specs.declared.object.ObjectId.{ObjectId}
 use Rattle.rules.specs.declared.object.Entry.{Entry}
 use Rattle.rules.specs.declared.thread.Thread.{Thread}
-use Rattle.rules.specs.declared.table.Op.{Op}
 use Rattle.rules.specs.declared.table.Table.{Table}
 use Rattle.rules.specs.declared.answer.Answer.{Answer}
 use Rattle.rules.specs.declared.answer.Answer.the-variants.{Deadlock, More, NotAllowed, Surplus}
@@ -33,7 +32,6 @@ use Rattle.turns.specs.declared.step.Deed.{Deed}
 use Rattle.turns.specs.declared.step.Acting.{Acting}
 use Rattle.turns.specs.declared.step.Acting.the-variants.{Nobody, Moves, Does, Over, AllEnded, Done}
 use Rattle.turns.specs.declared.step.Scene.{Scene}
-use Rattle.turns.specs.declared.step.Moved.{Moved}
 use Rattle.turns.specs.declared.run.End.{End}
 use Rattle.turns.specs.declared.run.End.the-variants as end
 use Rattle.turns.specs.declared.run.Ran.{Ran}

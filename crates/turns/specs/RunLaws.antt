@@ -5,9 +5,9 @@ use mathlib.Core.List.{List, [], _∷_}
 use Prim.Native.Nat.{ℕ, zero, suc, _+_, _-_, _*_, _≤_, _<_}
 use native.Mathlib.Numerals.{add-one}
 use native.Mathlib.Omega.{arith}
-use lib.Dec.{eqb, ltb, leb}
-use lib.ListN.{length, getD, take, drop, length-take, length-drop, drop-of-length-le, List·getD-eq-default}
-use lib.Seq.{drop-cons, drop-drop, set-getD}
+use lib.Dec.{ltb}
+use lib.ListN.{length, getD, drop, length-take, length-drop, drop-of-length-le, List·getD-eq-default}
+use lib.Seq.{drop-cons, set-getD}
 use borrow.Author.Tests.{leb-true, leb-false, ltb-true, ltb-false, lt-ltb, le-ltb, ne-eqb}
 use Rattle.clocks.specs.Clock.{risen}
 use Rattle.clocks.specs.Lists.{part-at}
@@ -35,11 +35,11 @@ use Rattle.rules.specs.declared.world.World.{World}
 use Rattle.rules.specs.declared.world.Effect.{Effect}
 use Rattle.rules.specs.declared.object.Entry.{Entry}
 use Rattle.rules.specs.declared.world.Decided.{Decided}
-use Rattle.rules.specs.Ground.{threadAt, isRunnable}
 use Rattle.rules.specs.Object.{newEntry, noObject}
 use Rattle.rules.specs.Effect.{effect}
 use Rattle.rules.specs.Announce.{isFree, asks}
 use Rattle.rules.specs.Table.{noOp, opsOf}
+use Rattle.rules.specs.TableLaws.{split, ops-few, ops-next}
 use Rattle.rules.specs.Turn as turn
 use Rattle.rules.specs.Turn.{threadIn, entryIn, withThreads, withTurn, withAsked, wants, done, refused, afterTurn, afterStep, allEnded, anyRunnable, mutexOf, settled, endingOf, spot, advance, operate, goOn, turnOf, question, opsLeft, begin, decideAt, decide, leakCheck}
 use Rattle.rules.specs.Judge.{Verdict, outcomeOf, step}
@@ -50,12 +50,8 @@ use Rattle.turns.specs.declared.step.Acting.{Acting}
 use Rattle.turns.specs.declared.step.Acting.the-variants.{Nobody, Moves, Does, Over, AllEnded, Done}
 use Rattle.turns.specs.declared.step.Scene.{Scene}
 use Rattle.turns.specs.declared.step.Moved.{Moved}
-use Rattle.turns.specs.Step.{firstSubject, subject, with, inTurn, askedAs, over, goes, advanced, failing, thereafter, operation, begins, free, goesOn, spurious, answers, waits, act}
-use Rattle.turns.specs.Run.{placeAt, placeOf, deedOf, sceneOf, worldOf, isAllowed, chosen, after, flag, movedBy, decided, moveWeight, weight, Fits, onwards, rest}
-
-pub split : {X : Type 0} (b : Bool) → (b ≡ true → X) → (b ≡ false → X) → X
-split true f g = f refl
-split false f g = g refl
+use Rattle.turns.specs.Step.{firstSubject, subject, with, inTurn, goes, advanced, failing, thereafter, operation, begins, free, goesOn, spurious, answers, waits, act}
+use Rattle.turns.specs.Run.{placeAt, deedOf, sceneOf, worldOf, isAllowed, chosen, after, flag, movedBy, decided, moveWeight, weight, Fits, onwards, rest}
 
 -- the place of an operation that is left, and of none
 module _ (counts : List ℕ) (t : ThreadId) (p : ℕ) where
@@ -78,19 +74,6 @@ module _ (table : Table) (t : ThreadId) (p : ℕ) (l : length (table .ops) ≡ 1
   abbrev ops : List Op
   ops = opsOf table (t .0)
 
-  few : length ops ≤ 192 - 32 * t .0
-  unfolding opsOf
-  few = omega (arith, length-take (getD (table .counts) (t .0) 0) (drop (32 * t .0) (table .ops)), length-drop (32 * t .0) (table .ops))
-
-  next-op : drop (risen 255 p) ops ≡ drop 1 (drop p ops)
-  next-op =
-      split (ltb p 255)
-      (λ e. let r : risen 255 p ≡ p + 1 = omega (arith, ltb-true p 255 e) in ap (λ (k : ℕ). drop k ops) r ∙ sym (drop-drop 1 p ops))
-      (λ e.
-      let r : length ops ≤ risen 255 p = omega (arith, few, ltb-false p 255 e) in
-      let s : length ops ≤ p + 1 = omega (arith, few, ltb-false p 255 e) in
-      drop-of-length-le ops {i = risen 255 p} r ∙ sym (drop-drop 1 p ops ∙ drop-of-length-le ops {i = p + 1} s))
-
   none-left : ltb (placeAt (table .counts) t p) 192 ≡ false → drop p ops ≡ []
   unfolding opsOf
   none-left h =
@@ -98,7 +81,7 @@ module _ (table : Table) (t : ThreadId) (p : ℕ) (l : length (table .ops) ≡ 1
       split (ltb p n)
       (λ e.
       let k : ltb (32 * t .0 + p) 192 ≡ false = rw (placeAt, e) at h in
-      let s : length ops ≤ p = omega (arith, few, ltb-false (32 * t .0 + p) 192 k) in
+      let s : length ops ≤ p = omega (arith, ops-few table (t .0) l, ltb-false (32 * t .0 + p) 192 k) in
       drop-of-length-le ops {i = p} s)
       (λ e. let s : length ops ≤ p = omega (arith, length-take n (drop (32 * t .0) (table .ops)), ltb-false p n e) in drop-of-length-le ops {i = p} s)
 
@@ -178,11 +161,11 @@ module _ (table : Table) (w : World) (t : ThreadId) (l : length (table .ops) ≡
   begins-law Nothing = ap (λ (v : World). goOn t (opsLeft table w t) (withTurn v (risen 65535 (w .turn)))) (same w (first .object))
   begins-law (Announced p) =
       ap (λ (op : Op). turn.operation t op (drop 1 (opsLeft table w t)) w) (first-left table t at l)
-      ∙ operation-law table w t at refl (drop 1 (opsLeft table w t)) (sym (next-op table t at l)) first
+      ∙ operation-law table w t at refl (drop 1 (opsLeft table w t)) (sym (ops-next table (t .0) at l)) first
   begins-law Parked =
       ap (λ (op : Op). afterTurn (withThreads (withTurn w (risen 65535 (w .turn))) (turn.retake t (mutexOf (op .call)) (entryIn w (mutexOf (op .call))) (w .threads)))) (first-left table t at l)
       ∙ (let m : ObjectId = mutexOf (first .call) in ap (λ (v : World). afterTurn (withThreads (withTurn v (risen 65535 (w .turn))) (turn.retake t m (entryIn w m) (w .threads)))) (same w m))
-  begins-law (Retaking p) = operation-law table w t at refl (drop 1 (opsLeft table w t)) (sym (next-op table t at l)) (record { call = Mutex mutex-call.AcquireLock; object = p .obj })
+  begins-law (Retaking p) = operation-law table w t at refl (drop 1 (opsLeft table w t)) (sym (ops-next table (t .0) at l)) (record { call = Mutex mutex-call.AcquireLock; object = p .obj })
 
   answers-law : (b : Bool) → question t (getD (opsLeft table w t) 0 noOp) (flag b) w ≡ landed table w (first .object) (answers t b first (sceneOf w (first .object)))
   unfolding question answers spurious turn.spurious decided

@@ -1,15 +1,14 @@
 -- What holds in a run from step to step, a law for each kind of step, as the loop asks for them.
 use mathlib.Core.Path.{_≡_, refl, sym, _∙_, ap, subst}
-use mathlib.Core.Bool.{Bool, true, false}
+use mathlib.Core.Bool.{true, false}
 use mathlib.Core.List.{List}
 use Prim.Native.Nat.{ℕ, _+_, _-_, _*_, _≤_, _<_}
 use native.Mathlib.Omega.{arith}
 use lib.Dec.{ltb}
 use lib.ListN.{length, getD, length-set, List·getD-eq-default}
-use lib.Seq.{set-out}
 use borrow.Author.Tests.{ltb-true, ltb-false, lt-ltb, le-ltb}
 use Rattle.clocks.specs.Lists.{getD-within}
-use Rattle.lists.specs.Judge.{Judged, judge}
+use Rattle.lists.specs.Judge.{judge}
 use Rattle.rules.specs.declared.object.ObjectId.{ObjectId}
 use Rattle.rules.specs.declared.object.Entry.{Entry}
 use Rattle.rules.specs.declared.thread.Thread.{Thread}
@@ -20,8 +19,9 @@ use Rattle.rules.specs.declared.world.Asked.{Asked}
 use Rattle.rules.specs.declared.world.World.{World}
 use Rattle.rules.specs.Object.{newEntry, noObject, entryAt, putEntry}
 use Rattle.rules.specs.Table.{noOp}
+use Rattle.rules.specs.TableLaws.{split}
 use Rattle.rules.specs.Turn.{leakCheck}
-use Rattle.rules.specs.Judge.{Verdict, outcomeOf, step}
+use Rattle.rules.specs.Judge.{outcomeOf, step}
 use Rattle.turns.specs.declared.step.Move.{Move}
 use Rattle.turns.specs.declared.step.Deed.{Deed}
 use Rattle.turns.specs.declared.step.Acting.{Acting}
@@ -29,10 +29,9 @@ use Rattle.turns.specs.declared.step.Acting.the-variants.{Nobody, Moves,
 use Rattle.turns.specs.declared.step.Scene.{Scene}
 use Rattle.turns.specs.declared.step.Moved.{Moved}
 use Rattle.turns.specs.declared.run.End.the-variants as end
-use Rattle.turns.specs.declared.run.Ran.{Ran}
 use Rattle.turns.specs.Step.{subject, act}
 use Rattle.turns.specs.Run.{placeOf, deedOf, isAllowed, chosen, after, decided, Fits, rest, Running, moveWeight, weight, endAt, ranOf}
-use Rattle.turns.specs.RunLaws.{split, rest-end, rest-refused, rest-chosen, rest-deed, rest-over, rest-all-ended, rest-verdict, rest-surplus, rest-act, act-fits, after-fits, act-lighter, after-light, chosen-weight, moves-heavier}
+use Rattle.turns.specs.RunLaws.{rest-end, rest-refused, rest-chosen, rest-deed, rest-over, rest-all-ended, rest-verdict, rest-surplus, rest-act, act-fits, after-fits, act-lighter, after-light, chosen-weight, moves-heavier}
 
 module _ (table : Table) (list : List ℕ) (given : World) where
   pub begun : length (given .objects) ≡ 16 → Running table list given (given .threads) (given .objects) (given .turn) (given .asked) Nobody 0

@@ -22,7 +22,6 @@ use Rattle.rules.specs.declared.answer.Answer.the-variants as answer
 use Rattle.rules.specs.declared.answer.Spot.{Spot}
 use Rattle.rules.specs.declared.world.Asked.{Asked}
 use Rattle.rules.specs.declared.world.Asked.the-variants as asked
-use Rattle.rules.specs.declared.world.Effect.{Effect}
 use Rattle.rules.specs.Ground.{threadAt, putThread, setRunnable}
 use Rattle.rules.specs.Object.{putNotify}
 use Rattle.rules.specs.Notify as notify
@@ -31,7 +30,6 @@ use Rattle.rules.specs.Announce.{isFree, asks}
 use Rattle.rules.specs.Turn.{mutexOf, announceOp, retake, operate, advance, ended, wait}
 use Rattle.turns.specs.declared.step.Move.{Move}
 use Rattle.turns.specs.declared.step.Move.the-variants.{Begins, Answers, Goes, Waits}
-use Rattle.turns.specs.declared.step.Acting.{Acting}
 use Rattle.turns.specs.declared.step.Acting.the-variants.{Nobody, Moves, Over, Done}
 use Rattle.turns.specs.declared.step.Scene.{Scene}
 use Rattle.turns.specs.declared.step.Moved.{Moved}

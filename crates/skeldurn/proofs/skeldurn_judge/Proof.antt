@@ -1,8 +1,12 @@
 -- `skeldurn_judge` meets its contract: the judge's answer in one word, and its buffer.
-use mathlib.Core.Path.{_∙_, ap}
+use mathlib.Core.Path.{_≡_, sym, _∙_, ap, subst}
+use Prim.Native.Nat.{_≤_}
+use native.Mathlib.Omega.{arith}
+use Rattle.rules.specs.declared.answer.Numbers.{Numbers}
 use Rattle.rules.specs.Answer.{numbersOf}
-use Rattle.rules.specs.Judge.{Given}
-use Rattle.skeldurn.specs.Word.{wordOf}
+use Rattle.rules.specs.Judge.{Given, judgeOf}
+use Rattle.walk.specs.Places.{judge-place}
+use Rattle.skeldurn.specs.Word.{wordOf, numbersIn, Fits, nothing-lost}
 use borrow.Author.Needs.{needs}
 use Rattle.skeldurn.proofs.skeldurn_judge.Statement.{statement}
 use Rattle.skeldurn.proofs.skeldurn_judge.Tie as tie
@@ -26,8 +30,13 @@ same-length c = search needs
 
 returns : tie.Need-returns
 returns c =
+    let a = c .before .before .before .before .before .before .before .before .before .args in
     let j = c .before .before .before .before .judge .ensures in
-    (c .word .ensures ∙ ap wordOf (c .before .numbers .ensures) ∙ ap (λ (g : Given). wordOf (numbersOf (g .answer))) j, ap (λ (g : Given). g .buffer) j)
+    let n : Numbers = c .before .numbers .result in
+    let same : n ≡ numbersOf (judgeOf (a .table .now) (a .list .now) (a .sheet .now) .answer) = c .before .numbers .ensures ∙ ap (λ (g : Given). numbersOf (g .answer)) j in
+    let small : n .place ≤ 1766 = subst (λ (m : Numbers). m .place ≤ 1766) (sym same) (judge-place (a .table .now) (a .list .now) (a .sheet .now)) in
+    let fits : Fits n = record { number = search needs; place = omega (arith, small); thread = search needs; position = search needs; object = search needs } in
+    (c .word .ensures ∙ ap wordOf same, (ap numbersIn (c .word .ensures) ∙ nothing-lost n fits ∙ same, ap (λ (g : Given). g .buffer) j))
 
 pub skeldurn-judge-spec : {M : Type 1} → statement M
 skeldurn-judge-spec =

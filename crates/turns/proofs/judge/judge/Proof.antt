@@ -1,11 +1,10 @@
 -- `judge::judge` meets its contract: the reader, the room for the sheet, the run, and what it shows.
-use mathlib.Core.Path.{_≡_, sym, _∙_, ap}
+use mathlib.Core.Path.{_≡_, _∙_, ap}
 use mathlib.Core.List.{List}
 use Prim.Native.Nat.{ℕ, _≤_, _<_}
 use native.Mathlib.Omega.{arith}
 use lib.ListN.{length}
 use Rattle.rules.specs.declared.table.Table.{Table}
-use Rattle.rules.specs.declared.table.TableRead.{TableRead}
 use Rattle.rules.specs.declared.answer.Answer.the-variants.{TooShort}
 use Rattle.rules.specs.declared.world.World.{World}
 use Rattle.lists.specs.Judge.{judge}
@@ -18,13 +17,6 @@ use Rattle.turns.specs.Start.{shows, judged-refused, judged-short, judge
 use borrow.Author.Needs.{needs}
 use Rattle.turns.proofs.judge.judge.Statement.{statement}
 use Rattle.turns.proofs.judge.judge.Tie as tie
-use Rattle.turns.proofs.judge.judge.Reads as reads
-use Rattle.turns.proofs.judge.judge.Lts as lts
-use Rattle.tables.proofs.sheet.sheet_length.Reads as sheet-length-reads
-use Rattle.tables.proofs.table.read_table.Reads as read-table-reads
-use Rattle.turns.proofs.judge.show.Reads as show-reads
-use Rattle.turns.proofs.judge.start.Reads as start-reads
-use Rattle.turns.proofs.run.run.Reads as run-reads
 
 read-table-requires : tie.Need-read-table-requires
 read-table-requires c κs = search needs

@@ -9,9 +9,6 @@ use Rattle.turns.specs.Run.{showing}
 use borrow.Author.Needs.{needs}
 use Rattle.turns.proofs.judge.show.Statement.{statement}
 use Rattle.turns.proofs.judge.show.Tie as tie
-use Rattle.turns.proofs.judge.show.Reads as reads
-use Rattle.turns.proofs.judge.show.Lts as lts
-use Rattle.tables.proofs.sheet.write_sheet.Reads as write-sheet-reads
 
 enum-known-end : tie.Need-enum-known-end
 enum-known-end c = search needs

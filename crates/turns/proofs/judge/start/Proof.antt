@@ -4,10 +4,6 @@ use Rattle.rules.specs.Turn.{start}
 use borrow.Author.Needs.{needs}
 use Rattle.turns.proofs.judge.start.Statement.{statement}
 use Rattle.turns.proofs.judge.start.Tie as tie
-use Rattle.turns.proofs.judge.start.Reads as reads
-use Rattle.turns.proofs.judge.start.Lts as lts
-use Rattle.turns.proofs.judge.start_objects.Reads as start-objects-reads
-use Rattle.turns.proofs.judge.start_threads.Reads as start-threads-reads
 
 start-threads-requires : tie.Need-start-threads-requires
 start-threads-requires c κs = search needs

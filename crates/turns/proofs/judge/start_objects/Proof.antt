@@ -1,7 +1,7 @@
 -- `judge::start_objects` meets its contract: it is a pass.
-use mathlib.Core.Path.{_≡_, refl, sym, _∙_, ap}
+use mathlib.Core.Path.{_≡_, refl, _∙_, ap}
 use mathlib.Core.List.{List}
-use Prim.Native.Nat.{ℕ, _≤_, _<_, _-_}
+use Prim.Native.Nat.{_≤_, _<_, _-_}
 use native.Mathlib.Omega.{arith}
 use lib.ListN.{length, replicate, length-replicate}
 use Rattle.clocks.specs.Lists.{getD-within}
@@ -13,9 +13,6 @@ use Rattle.turns.specs.Start.{madeAt, made-all}
 use borrow.Author.Needs.{needs}
 use Rattle.turns.proofs.judge.start_objects.Statement.{statement}
 use Rattle.turns.proofs.judge.start_objects.Tie as tie
-use Rattle.turns.proofs.judge.start_objects.Reads as reads
-use Rattle.turns.proofs.judge.start_objects.Lts as lts
-use Rattle.objects.proofs.object.new_entry.Reads as new-entry-reads
 
 abbrev Inv-loop : tie.InvT-loop
 Inv-loop objects out₀ k₀ out k = (k ≤ 16) × (length objects ≡ 16) × (length out₀ ≡ 16) × (out ≡ passed (madeAt objects) k 0 out₀)

@@ -5,9 +5,6 @@ use Rattle.rules.specs.Turn.{startThread}
 use borrow.Author.Needs.{needs}
 use Rattle.turns.proofs.judge.start_thread.Statement.{statement}
 use Rattle.turns.proofs.judge.start_thread.Tie as tie
-use Rattle.turns.proofs.judge.start_thread.Reads as reads
-use Rattle.turns.proofs.judge.start_thread.Lts as lts
-use Rattle.objects.proofs.thread.with_state.Reads as with-state-reads
 
 with-state-requires : tie.Need-with-state-requires
 with-state-requires c κs = search needs

@@ -1,7 +1,7 @@
 -- `judge::start_threads` meets its contract: it is a pass over absent threads.
-use mathlib.Core.Path.{_≡_, refl, sym, _∙_, ap}
+use mathlib.Core.Path.{_≡_, refl, _∙_, ap}
 use mathlib.Core.List.{List}
-use Prim.Native.Nat.{ℕ, _≤_, _-_}
+use Prim.Native.Nat.{_≤_, _-_}
 use native.Mathlib.Omega.{arith}
 use lib.ListN.{length, replicate, length-replicate}
 use Rattle.clocks.specs.Pass.{passFrom, passed, turned, ended}
@@ -11,10 +11,6 @@ use Rattle.rules.specs.Turn.{startThread}
 use borrow.Author.Needs.{needs}
 use Rattle.turns.proofs.judge.start_threads.Statement.{statement}
 use Rattle.turns.proofs.judge.start_threads.Tie as tie
-use Rattle.turns.proofs.judge.start_threads.Reads as reads
-use Rattle.turns.proofs.judge.start_threads.Lts as lts
-use Rattle.objects.proofs.thread.absent.Reads as absent-reads
-use Rattle.turns.proofs.judge.start_thread.Reads as start-thread-reads
 
 abbrev Inv-loop : tie.InvT-loop
 Inv-loop n out₀ k₀ out k = (k ≤ 6) × (out₀ ≡ replicate 6 absent) × (out ≡ passed (startThread n) k 0 out₀)

@@ -7,11 +7,6 @@ use Rattle.turns.specs.Run.{after}
 use borrow.Author.Needs.{needs}
 use Rattle.turns.proofs.run.after.Statement.{statement}
 use Rattle.turns.proofs.run.after.Tie as tie
-use Rattle.turns.proofs.run.after.Reads as reads
-use Rattle.turns.proofs.run.after.Lts as lts
-use Rattle.turns.proofs.after.all_ended.Reads as all-ended-reads
-use Rattle.turns.proofs.after.any_runnable.Reads as any-runnable-reads
-use Rattle.turns.proofs.after.stuck.Reads as stuck-reads
 
 all-ended-requires : tie.Need-all-ended-requires
 all-ended-requires c κs = search needs

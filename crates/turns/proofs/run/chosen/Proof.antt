@@ -5,8 +5,6 @@ use Rattle.turns.specs.Run.{chosen}
 use borrow.Author.Needs.{needs}
 use Rattle.turns.proofs.run.chosen.Statement.{statement}
 use Rattle.turns.proofs.run.chosen.Tie as tie
-use Rattle.turns.proofs.run.chosen.Reads as reads
-use Rattle.turns.proofs.run.chosen.Lts as lts
 
 enum-told : tie.Need-enum-told
 enum-told c = search needs

@@ -7,10 +7,6 @@ use Rattle.turns.specs.Run.{isAllowed}
 use borrow.Author.Needs.{needs}
 use Rattle.turns.proofs.run.is_allowed.Statement.{statement}
 use Rattle.turns.proofs.run.is_allowed.Tie as tie
-use Rattle.turns.proofs.run.is_allowed.Reads as reads
-use Rattle.turns.proofs.run.is_allowed.Lts as lts
-use Rattle.objects.proofs.thread.get.Reads as get-reads
-use Rattle.objects.proofs.thread.is_runnable.Reads as is-runnable-reads
 
 enum-told : tie.Need-enum-told
 enum-told c = search needs

@@ -9,8 +9,6 @@ use Prim.Native.Nat.{ℕ}
 use borrow.Author.Needs.{needs}
 use Rattle.turns.proofs.run.place_at.Statement.{statement}
 use Rattle.turns.proofs.run.place_at.Tie as tie
-use Rattle.turns.proofs.run.place_at.Reads as reads
-use Rattle.turns.proofs.run.place_at.Lts as lts
 
 cast-i : tie.Need-cast-i
 cast-i c = search needs

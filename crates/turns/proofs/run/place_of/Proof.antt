@@ -5,10 +5,6 @@ use Rattle.turns.specs.Run.{placeAt, placeOf}
 use borrow.Author.Needs.{needs}
 use Rattle.turns.proofs.run.place_of.Statement.{statement}
 use Rattle.turns.proofs.run.place_of.Tie as tie
-use Rattle.turns.proofs.run.place_of.Reads as reads
-use Rattle.turns.proofs.run.place_of.Lts as lts
-use Rattle.objects.proofs.thread.get.Reads as get-reads
-use Rattle.turns.proofs.run.place_at.Reads as place-at-reads
 
 enum-known-m : tie.Need-enum-known-m
 enum-known-m c = search needs

@@ -17,18 +17,6 @@ use borrow.Author.Needs.{needs}
 use Rattle.turns.specs.Run.{Running, weight}
 use Rattle.turns.proofs.run.run.Statement.{statement}
 use Rattle.turns.proofs.run.run.Tie as tie
-use Rattle.turns.proofs.run.run.Reads as reads
-use Rattle.turns.proofs.run.run.Lts as lts
-use Rattle.turns.proofs.after.leak_check.Reads as leak-check-reads
-use Rattle.turns.proofs.run.after.Reads as after-reads
-use Rattle.turns.proofs.run.chosen.Reads as chosen-reads
-use Rattle.turns.proofs.run.is_allowed.Reads as is-allowed-reads
-use Rattle.turns.proofs.run.no_entry.Reads as no-entry-reads
-use Rattle.turns.proofs.run.no_op.Reads as no-op-reads
-use Rattle.turns.proofs.run.place_of.Reads as place-of-reads
-use Rattle.turns.proofs.run.verdict.Reads as verdict-reads
-use Rattle.turns.proofs.step.act.Reads as act-reads
-use Rattle.turns.proofs.step.subject.Reads as subject-reads
 
 abbrev Inv-loop : tie.InvT-loop
 Inv-loop table world list ops threads₀ objects₀ turn₀ asked₀ acting₀ at₀ threads objects turn asked acting at =

@@ -1,11 +1,8 @@
 -- `run::verdict` meets its contract.
 use borrow.Author.Tests.{lt-ltb, le-ltb}
 use Rattle.turns.specs.Run.{endAt}
-use borrow.Author.Needs.{needs}
 use Rattle.turns.proofs.run.verdict.Statement.{statement}
 use Rattle.turns.proofs.run.verdict.Tie as tie
-use Rattle.turns.proofs.run.verdict.Reads as reads
-use Rattle.turns.proofs.run.verdict.Lts as lts
 
 returns : tie.Need-returns
 unfolding endAt

@@ -6,13 +6,6 @@ use Rattle.turns.specs.Step.{begins, act}
 use borrow.Author.Needs.{needs}
 use Rattle.turns.proofs.step.act.Statement.{statement}
 use Rattle.turns.proofs.step.act.Tie as tie
-use Rattle.turns.proofs.step.act.Reads as reads
-use Rattle.turns.proofs.step.act.Lts as lts
-use Rattle.objects.proofs.thread.get.Reads as get-reads
-use Rattle.turns.proofs.step.answers.Reads as answers-reads
-use Rattle.turns.proofs.step.begins.Reads as begins-reads
-use Rattle.turns.proofs.step.goes_on.Reads as goes-on-reads
-use Rattle.turns.proofs.step.waits.Reads as waits-reads
 
 enum-known-m : tie.Need-enum-known-m
 enum-known-m c = search needs

@@ -8,11 +8,6 @@ use Rattle.turns.specs.Step.{with, goes}
 use borrow.Author.Needs.{needs}
 use Rattle.turns.proofs.step.advanced.Statement.{statement}
 use Rattle.turns.proofs.step.advanced.Tie as tie
-use Rattle.turns.proofs.step.advanced.Reads as reads
-use Rattle.turns.proofs.step.advanced.Lts as lts
-use Rattle.turns.proofs.step.goes.Reads as goes-reads
-use Rattle.turns.proofs.turn.advance.Reads as advance-reads
-use Rattle.turns.proofs.turn.one_more.Reads as one-more-reads
 
 advance-requires : tie.Need-advance-requires
 advance-requires c κs = search needs

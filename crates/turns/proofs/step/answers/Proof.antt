@@ -1,17 +1,10 @@
 -- `step::answers` meets its contract.
 use mathlib.Core.Path.{_∙_, ap}
-use mathlib.Core.List.{List}
-use Rattle.rules.specs.declared.thread.Thread.{Thread}
 use Rattle.rules.specs.declared.world.Asked.the-variants.{Nobody}
 use Rattle.turns.specs.Step.{askedAs, over, answers}
 use borrow.Author.Needs.{needs}
 use Rattle.turns.proofs.step.answers.Statement.{statement}
 use Rattle.turns.proofs.step.answers.Tie as tie
-use Rattle.turns.proofs.step.answers.Reads as reads
-use Rattle.turns.proofs.step.answers.Lts as lts
-use Rattle.turns.proofs.step.over.Reads as over-reads
-use Rattle.turns.proofs.step.spurious.Reads as spurious-reads
-use Rattle.turns.proofs.turn.announce_op.Reads as announce-op-reads
 
 spurious-requires : tie.Need-spurious-requires
 spurious-requires c κs = search needs

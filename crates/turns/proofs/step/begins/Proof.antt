@@ -1,26 +1,13 @@
 -- `step::begins` meets its contract, a phase at a time.
 use Rattle.rules.specs.Turn.{mutexOf}
 use mathlib.Core.Path.{sym, _∙_, ap}
-use mathlib.Core.List.{List}
-use Prim.Native.Nat.{ℕ}
 use Rattle.rules.specs.declared.object.ObjectId.{ObjectId}
 use Rattle.rules.specs.declared.thread.Phase.{Phase}
-use Rattle.rules.specs.declared.thread.Thread.{Thread}
-use Rattle.clocks.specs.Clock.{risen}
 use Rattle.rules.specs.Turn.{retake}
 use Rattle.turns.specs.Step.{inTurn, goes, over, begins}
 use borrow.Author.Needs.{needs}
 use Rattle.turns.proofs.step.begins.Statement.{statement}
 use Rattle.turns.proofs.step.begins.Tie as tie
-use Rattle.turns.proofs.step.begins.Reads as reads
-use Rattle.turns.proofs.step.begins.Lts as lts
-use Rattle.objects.proofs.thread.get.Reads as get-reads
-use Rattle.turns.proofs.step.goes.Reads as goes-reads
-use Rattle.turns.proofs.step.mutex_of.Reads as mutex-of-reads
-use Rattle.turns.proofs.step.one_more_turn.Reads as one-more-turn-reads
-use Rattle.turns.proofs.step.operation.Reads as operation-reads
-use Rattle.turns.proofs.step.over.Reads as over-reads
-use Rattle.turns.proofs.turn.retake.Reads as retake-reads
 
 get-requires : tie.Need-get-requires
 get-requires c κs = search needs

@@ -7,10 +7,6 @@ use Rattle.turns.specs.Step.{fails, failing}
 use borrow.Author.Needs.{needs}
 use Rattle.turns.proofs.step.failing.Statement.{statement}
 use Rattle.turns.proofs.step.failing.Tie as tie
-use Rattle.turns.proofs.step.failing.Reads as reads
-use Rattle.turns.proofs.step.failing.Lts as lts
-use Rattle.objects.proofs.thread.get.Reads as get-reads
-use Rattle.turns.proofs.step.fails.Reads as fails-reads
 
 get-requires : tie.Need-get-requires
 get-requires c κs = search needs

@@ -5,11 +5,6 @@ use Rattle.turns.specs.Step.{with, failing, advanced, free}
 use borrow.Author.Needs.{needs}
 use Rattle.turns.proofs.step.free.Statement.{statement}
 use Rattle.turns.proofs.step.free.Tie as tie
-use Rattle.turns.proofs.step.free.Reads as reads
-use Rattle.turns.proofs.step.free.Lts as lts
-use Rattle.turns.proofs.effect.effect.Reads as effect-reads
-use Rattle.turns.proofs.step.advanced.Reads as advanced-reads
-use Rattle.turns.proofs.step.failing.Reads as failing-reads
 
 effect-requires : tie.Need-effect-requires
 effect-requires c κs = search needs

@@ -4,15 +4,6 @@ use Rattle.turns.specs.Step.{over, goesOn}
 use borrow.Author.Needs.{needs}
 use Rattle.turns.proofs.step.goes_on.Statement.{statement}
 use Rattle.turns.proofs.step.goes_on.Tie as tie
-use Rattle.turns.proofs.step.goes_on.Reads as reads
-use Rattle.turns.proofs.step.goes_on.Lts as lts
-use Rattle.turns.proofs.announce.asks.Reads as asks-reads
-use Rattle.turns.proofs.announce.is_free.Reads as is-free-reads
-use Rattle.turns.proofs.step.asking.Reads as asking-reads
-use Rattle.turns.proofs.step.free.Reads as free-reads
-use Rattle.turns.proofs.step.over.Reads as over-reads
-use Rattle.turns.proofs.turn.announce_op.Reads as announce-op-reads
-use Rattle.turns.proofs.turn.ended.Reads as ended-reads
 
 is-free-requires : tie.Need-is-free-requires
 is-free-requires c κs = search needs

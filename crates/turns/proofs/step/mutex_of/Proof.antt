@@ -6,8 +6,6 @@ use Rattle.rules.specs.Turn.{mutexOf}
 use borrow.Author.Needs.{needs}
 use Rattle.turns.proofs.step.mutex_of.Statement.{statement}
 use Rattle.turns.proofs.step.mutex_of.Tie as tie
-use Rattle.turns.proofs.step.mutex_of.Reads as reads
-use Rattle.turns.proofs.step.mutex_of.Lts as lts
 
 enum-known-call : tie.Need-enum-known-call
 enum-known-call c = search needs

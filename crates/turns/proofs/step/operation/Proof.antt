@@ -3,21 +3,12 @@ use mathlib.Core.Path.{_∙_, ap}
 use Prim.Native.Nat.{ℕ}
 use Rattle.rules.specs.declared.thread.Thread.{Thread}
 use Rattle.rules.specs.declared.world.Effect.{Effect}
-use Rattle.clocks.specs.Clock.{risen}
 use Rattle.rules.specs.Turn.{operate}
-use Rattle.rules.specs.Ground.{threadAt}
 use Rattle.turns.specs.Step.{with, inTurn, failing, thereafter, operation}
 use Rattle.turns.specs.declared.step.Moved.{Moved}
 use borrow.Author.Needs.{needs}
 use Rattle.turns.proofs.step.operation.Statement.{statement}
 use Rattle.turns.proofs.step.operation.Tie as tie
-use Rattle.turns.proofs.step.operation.Reads as reads
-use Rattle.turns.proofs.step.operation.Lts as lts
-use Rattle.objects.proofs.thread.get.Reads as get-reads
-use Rattle.turns.proofs.step.failing.Reads as failing-reads
-use Rattle.turns.proofs.step.one_more_turn.Reads as one-more-turn-reads
-use Rattle.turns.proofs.step.thereafter.Reads as thereafter-reads
-use Rattle.turns.proofs.turn.operate.Reads as operate-reads
 
 get-requires : tie.Need-get-requires
 get-requires c κs = search needs

@@ -12,14 +12,6 @@ use Rattle.turns.specs.declared.step.Scene.{Scene}
 use borrow.Author.Needs.{needs}
 use Rattle.turns.proofs.step.spurious.Statement.{statement}
 use Rattle.turns.proofs.step.spurious.Tie as tie
-use Rattle.turns.proofs.step.spurious.Reads as reads
-use Rattle.turns.proofs.step.spurious.Lts as lts
-use Rattle.objects.proofs.notify.spur.Reads as spur-reads
-use Rattle.objects.proofs.thread.get.Reads as get-reads
-use Rattle.objects.proofs.thread.put.Reads as put-reads
-use Rattle.objects.proofs.thread.set_runnable.Reads as set-runnable-reads
-use Rattle.turns.proofs.step.over.Reads as over-reads
-use Rattle.turns.proofs.turn.advance.Reads as advance-reads
 
 spur-requires : tie.Need-spur-requires
 spur-requires c κs = search needs

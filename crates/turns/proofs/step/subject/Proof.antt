@@ -6,10 +6,6 @@ use Rattle.turns.specs.Step.{firstSubject, subject}
 use borrow.Author.Needs.{needs}
 use Rattle.turns.proofs.step.subject.Statement.{statement}
 use Rattle.turns.proofs.step.subject.Tie as tie
-use Rattle.turns.proofs.step.subject.Reads as reads
-use Rattle.turns.proofs.step.subject.Lts as lts
-use Rattle.objects.proofs.thread.get.Reads as get-reads
-use Rattle.turns.proofs.step.first_subject.Reads as first-subject-reads
 
 enum-known-m : tie.Need-enum-known-m
 enum-known-m c = search needs

@@ -8,10 +8,6 @@ use Rattle.turns.specs.declared.step.Moved.{Moved}
 use borrow.Author.Needs.{needs}
 use Rattle.turns.proofs.step.thereafter.Statement.{statement}
 use Rattle.turns.proofs.step.thereafter.Tie as tie
-use Rattle.turns.proofs.step.thereafter.Reads as reads
-use Rattle.turns.proofs.step.thereafter.Lts as lts
-use Rattle.turns.proofs.step.advanced.Reads as advanced-reads
-use Rattle.turns.proofs.step.queues.Reads as queues-reads
 
 enum-known-call : tie.Need-enum-known-call
 enum-known-call c = search needs

@@ -5,10 +5,6 @@ use Rattle.turns.specs.Step.{with, over, waits}
 use borrow.Author.Needs.{needs}
 use Rattle.turns.proofs.step.waits.Statement.{statement}
 use Rattle.turns.proofs.step.waits.Tie as tie
-use Rattle.turns.proofs.step.waits.Reads as reads
-use Rattle.turns.proofs.step.waits.Lts as lts
-use Rattle.turns.proofs.step.over.Reads as over-reads
-use Rattle.turns.proofs.turn.wait.Reads as wait-reads
 
 wait-requires : tie.Need-wait-requires
 wait-requires c κs = search needs

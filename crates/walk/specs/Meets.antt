@@ -1,0 +1,69 @@
+-- Demand 3: what document 01's "first" and "next" find is what the demand asks for, over the lists that are complete under the step rules.
+use mathlib.Core.Path.{_≡_, refl, sym, _∙_, ap, subst}
+use mathlib.Core.List.{List}
+use Prim.Native.Nat.{ℕ, suc, _≤_, _<_}
+use lib.Dec.{T}
+use lib.ListN.{length, drop}
+use Rattle.lists.specs.Judge.{Judged, notAllowed, surplus, unfinished, verdict, isVerdict, judge, judge-complete}
+use Rattle.lists.specs.Rules as lists
+use Rattle.lists.specs.Next as next
+use Rattle.lists.specs.Walk as walk
+use Rattle.rules.specs.declared.table.Table.{Table}
+use Rattle.rules.specs.declared.world.World.{World}
+use Rattle.rules.specs.Table.{Read, refused, accepted, readTable}
+use Rattle.rules.specs.Turn.{start}
+use Rattle.rules.specs.Judge.{Verdict, step}
+use Rattle.rules.specs.Walk.{decisions, left, firstTable, firstOf, nextTable, nextJudged, nextOf}
+use Rattle.rules.specs.Demand.{Complete, First, FirstMust, Next, NextMust, NextOfList}
+use Rattle.walk.specs.Falling.{Good}
+use Rattle.walk.specs.Machine.{bounded, some-allowed, keeps, falls}
+use Rattle.walk.specs.Accepted.{Within, accepted-within, start-good}
+use Rattle.rules.specs.TableLaws.{ops-next}
+use Rattle.rules.specs.Table.{opsOf}
+use Rattle.clocks.specs.Clock.{risen}
+
+module _ (table : Table) (w : Within table) (some : 0 < table .«thread_count») where
+  step-on : (k p : ℕ) → drop (risen 255 p) (opsOf table k) ≡ drop 1 (drop p (opsOf table k))
+  step-on k p = ops-next table k p (w .ops)
+
+  good : Good table (start table)
+  good = start-good table w some
+
+  first-is : lists.IsFirst (step table) (start table) (next.firstOf (step table) decisions (left table) (start table))
+  first-is = next.first-first (step table) decisions (left table) (Good table) (bounded table step-on) (some-allowed table step-on) (keeps table step-on) (falls table step-on) (start table) good
+
+  next-is : (list : List ℕ) → Complete table list → lists.Answers (step table) (start table) list (next.nextOf (step table) decisions (left table) (start table) list)
+  next-is list c = next.next-answers (step table) decisions (left table) (Good table) (bounded table step-on) (some-allowed table step-on) (keeps table step-on) (falls table step-on) (start table) list good c
+
+  -- every complete list is met, starting with "first" and going on with "next"
+  pub reached : (list : List ℕ) → Complete table list
+      → walk.Reached (next.firstOf (step table) decisions (left table) (start table)) (next.nextOf (step table) decisions (left table) (start table)) list
+  reached list c = walk.all-reached (step table) decisions (left table) (Good table) (bounded table step-on) (some-allowed table step-on) (keeps table step-on) (falls table step-on) (start table) list good c
+
+  -- and the walk of "first" and "next" meets every complete list once, if it is let go on for long enough
+  pub met-once : (n : ℕ) (list : List ℕ) → length (walk.tree (step table) decisions (suc (left table (start table))) (start table)) ≤ n → Complete table list
+      → walk.times list (walk.walk (step table) decisions (left table) n (start table)) ≡ 1
+  met-once n list l c = walk.walk-once (step table) decisions (left table) (Good table) (bounded table step-on) (some-allowed table step-on) (keeps table step-on) (falls table step-on) n (start table) list good l c
+
+pub first-meets : (bs buffer : List ℕ) → First bs buffer (firstOf bs buffer)
+unfolding firstOf firstTable
+first-meets bs buffer = go (readTable bs) refl
+  where
+    go : (r : Read) → readTable bs ≡ r → FirstMust r buffer (firstTable r buffer)
+    go (refused a) e = refl
+    go (accepted t) e = let h = accepted-within bs t e in (_, first-is t (h .0) (h .1), refl)
+
+pub next-meets : (bs list buffer : List ℕ) → Next bs list buffer (nextOf bs list buffer)
+unfolding nextOf nextTable nextJudged
+next-meets bs list buffer = go (readTable bs) refl
+  where
+    by-list : (t : Table) → Within t → 0 < t .«thread_count» → (j : Judged World Verdict) → judge (step t) 0 (start t) list ≡ j
+        → NextOfList t j list buffer (nextJudged j (next.nextOf (step t) decisions (left t) (start t) list) buffer)
+    by-list t w some (notAllowed i) q = refl
+    by-list t w some (surplus i) q = refl
+    by-list t w some (unfinished v) q = refl
+    by-list t w some (verdict v) q = (_, next-is t w some list (subst T (sym (ap isVerdict q) ∙ judge-complete (step t) 0 (start t) list) tt), refl)
+
+    go : (r : Read) → readTable bs ≡ r → NextMust r list buffer (nextTable r list buffer)
+    go (refused a) e = refl
+    go (accepted t) e = let h = accepted-within bs t e in by-list t (h .0) (h .1) (judge (step t) 0 (start t) list) refl
