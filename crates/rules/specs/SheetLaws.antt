@@ -87,7 +87,7 @@ first-small ms k = omega (arith, objects-small (take k ms), length-take k ms)
 pub sheet-small : (bs : List ℕ) (table : Table) → readTable bs ≡ accepted table → sheetLength table ≤ 1766
 unfolding sheetLength
 sheet-small bs table e =
-    let w = read-within bs table e in
+    let w = read-within bs table e .0 in
     let ms = take (table .«object_count») (table .objects) in
     omega (arith, w .threads, w .objects, objects-small ms, length-take (table .«object_count») (table .objects))
 

@@ -1,4 +1,4 @@
--- An accepted table is within document 01's limits.
+-- How a table is read, a record after the other; and an accepted one is within document 01's limits.
 use mathlib.Core.Path.{_≡_, refl, sym, _∙_, ap, fun-ext}
 use mathlib.Core.Bool.{Bool, true, false, _&&_, false≢true}
 use mathlib.Core.List.{List, [], _∷_}
@@ -6,11 +6,12 @@ use Prim.Native.Nat.{ℕ, zero, suc, _+_, _-_, _*_, _≤_, _<_}
 use native.Mathlib.Numerals.{add-one}
 use native.Mathlib.Omega.{arith}
 use lib.Dec.{eqb, ltb, leb}
-use lib.ListN.{length, getD, drop, length-take, length-drop, drop-of-length-le}
+use lib.ListN.{length, getD, set, drop, replicate, length-set, length-take, length-drop, drop-of-length-le}
 use lib.Seq.{drop-cons, drop-drop}
-use borrow.Author.Tests.{ltb-true, ltb-false, leb-true}
+use borrow.Author.Tests.{ltb-true, ltb-false, leb-true, eqb-true, eqb-false}
 use Rattle.clocks.specs.Clock.{risen}
 use Rattle.rules.specs.declared.table.Op.{Op}
+use Rattle.rules.specs.declared.table.Made.{Made}
 use Rattle.rules.specs.declared.table.Table.{Table}
 use Rattle.rules.specs.declared.table.Taken.the-variants.{Accepted, Refused}
 use Rattle.rules.specs.declared.table.TableRead.{TableRead}
@@ -19,11 +20,6 @@ use Rattle.rules.specs.declared.table.Record.the-variants as rec
 use Rattle.rules.specs.declared.answer.Answer.{Answer}
 use Rattle.rules.specs.declared.answer.Answer.the-variants.{BadRecord, TooMany, BadObject}
 use Rattle.rules.specs.Table.{readOf, objectRecord, threadRecord, operationRecord, isObject, isOperation, Read, refused, accepted, lastCount, objectsFine, withObject, withThread, withOp, oneRecord, atEnd, recordOf, bodyLength, emptyTable, readFrom, readTable, opsOf}
-
--- "At most 16 objects, 1 to 6 threads"
-pub record Within (t : Table) : Type 0 where
-  pub objects : t .«object_count» ≤ 16
-  pub threads : t .«thread_count» ≤ 6
 
 -- a statement about a choice, by its test
 pub by-test : {A : Type 0} (P : A → Type 0) (b : Bool) {x y : A} → (b ≡ true → P x) → (b ≡ false → P y) → P (elim b [ true ↦ x | false ↦ y ])
@@ -49,43 +45,6 @@ ops-next table k p l =
     let r : length os ≤ risen 255 p = omega (arith, few, ltb-false p 255 e) in
     let s : length os ≤ p + 1 = omega (arith, few, ltb-false p 255 e) in
     drop-of-length-le os {i = risen 255 p} r ∙ sym (drop-drop 1 p os ∙ drop-of-length-le os {i = p + 1} s))
-
--- what is accepted in the end is within the limits
-abbrev Ends : Read → Type 0
-Ends r = (table : Table) → r ≡ accepted table → Within table
-
-never : (a : Answer) → Ends (refused a)
-never a table e = let q : _≡_ {A = ℕ} 0 1 = cc in absurd (omega arith)
-
-one-within : (at : ℕ) (t : Table) (r : Record) (go : Table → Read) → Within t → ((u : Table) → Within u → Ends (go u)) → Ends (oneRecord at t r go)
-unfolding oneRecord objectRecord threadRecord operationRecord withObject withThread withOp
-one-within at t (rec.Object m) go w next =
-    by-test Ends (eqb (t .«thread_count») 0)
-    (λ z. by-test Ends (ltb (t .«object_count») 16) (λ l. next _ (record { objects = omega (arith, ltb-true (t .«object_count») 16 l); threads = w .threads })) (λ l. never (TooMany at)))
-    (λ z. never (BadRecord at))
-one-within at t rec.Thread go w next =
-    by-test Ends (ltb (t .«thread_count») 6) (λ l. next _ (record { objects = w .objects; threads = omega (arith, ltb-true (t .«thread_count») 6 l) })) (λ l. never (TooMany at))
-one-within at t (rec.Operation op) go w next =
-    by-test Ends (eqb (t .«thread_count») 0) (λ z. never (BadRecord at))
-    (λ z.
-    by-test Ends (ltb (lastCount t) 32)
-    (λ l. by-test Ends (objectsFine (t .objects) op) (λ f. next _ (record { objects = w .objects; threads = w .threads })) (λ f. never (BadObject at)))
-    (λ l. never (TooMany at)))
-one-within at t rec.Bad go w next = never (BadRecord at)
-
-end-within : (at : ℕ) (t : Table) → Within t → Ends (atEnd at t)
-unfolding atEnd
-end-within at t w = by-test Ends (eqb (t .«thread_count») 0) (λ z. never (TooMany at)) (λ z table e. let same : t ≡ table = cc in rw (← same) w)
-
-from-within : (n at : ℕ) (bs : List ℕ) (t : Table) → Within t → Ends (readFrom n at bs t)
-unfolding readFrom
-from-within zero at bs t w = end-within at t w
-from-within (suc n) at [] t w = end-within at t w
-from-within (suc n) at (k ∷ bs) t w = one-within at t (recordOf k bs) _ w (λ u v. from-within n (at + 1 + bodyLength k) (drop (bodyLength k) bs) u v)
-
-pub read-within : (bs : List ℕ) (table : Table) → readTable bs ≡ accepted table → Within table
-unfolding readTable emptyTable
-read-within bs = from-within (length bs) 0 bs emptyTable (record { objects = omega arith; threads = omega arith })
 
 -- the ranges of kinds
 pub object-low : (k : ℕ) → isObject k ≡ true → 0x10 ≤ k
@@ -216,3 +175,104 @@ unfolding bodyLength
 body-small k =
     by-test (λ (n : ℕ). n ≤ 2) (eqb k 0x10) (λ e. omega arith)
     (λ e. by-test (λ (n : ℕ). n ≤ 2) (eqb k 0x13) (λ f. omega arith) (λ f. by-test (λ (n : ℕ). n ≤ 2) (eqb k 0x39) (λ g. omega arith) (λ g. by-test (λ (n : ℕ). n ≤ 2) (isOperation k) (λ o. omega arith) (λ o. omega arith))))
+
+-- What holds of every table that is read: `I` of the place and the table, kept by each record that is accepted, and what it comes to, `Q`.
+module _ (I : ℕ → Table → Type 0) (Q : Read → Type 0)
+    (stops : (at : ℕ) (t : Table) → I at t → Q (refused (BadRecord at)) × Q (refused (TooMany at)) × Q (refused (BadObject at)))
+    (object : (at past : ℕ) (t : Table) (m : Made) → past ≤ at + 3 → t .«thread_count» ≡ 0 → t .«object_count» < 16 → I at t → I past (withObject t m))
+    (thread : (at past : ℕ) (t : Table) → past ≤ at + 3 → t .«thread_count» < 6 → I at t → I past (withThread t))
+    (operation : (at past : ℕ) (t : Table) (op : Op) → past ≤ at + 3 → 0 < t .«thread_count» → lastCount t < 32 → I at t → I past (withOp t op))
+    (ends : (at : ℕ) (t : Table) → 0 < t .«thread_count» → I at t → Q (accepted t)) where
+  positive : (n : ℕ) → eqb n 0 ≡ false → 0 < n
+  positive zero e = absurd (eqb-false 0 0 e refl)
+  positive (suc n) e = omega arith
+
+  one-by : (at past : ℕ) → past ≤ at + 3 → (t : Table) (r : Record) (go : Table → Read) → I at t → ((u : Table) → I past u → Q (go u)) → Q (oneRecord at t r go)
+  unfolding oneRecord objectRecord threadRecord operationRecord
+  one-by at past on t (rec.Object m) go i next =
+      by-test Q (eqb (t .«thread_count») 0)
+      (λ z.
+      by-test Q (ltb (t .«object_count») 16)
+      (λ l. next _ (object at past t m on (eqb-true (t .«thread_count») 0 z) (ltb-true (t .«object_count») 16 l) i)) (λ l. stops at t i .1)) (λ z. stops at t i .0)
+  one-by at past on t rec.Thread go i next =
+      by-test Q (ltb (t .«thread_count») 6) (λ l. next _ (thread at past t on (ltb-true (t .«thread_count») 6 l) i)) (λ l. stops at t i .1)
+  one-by at past on t (rec.Operation op) go i next =
+      by-test Q (eqb (t .«thread_count») 0) (λ z. stops at t i .0)
+      (λ z.
+      by-test Q (ltb (lastCount t) 32)
+      (λ l.
+      by-test Q (objectsFine (t .objects) op) (λ f. next _ (operation at past t op on (positive (t .«thread_count») z) (ltb-true (lastCount t) 32 l) i)) (λ f. stops at t i .2))
+      (λ l. stops at t i .1))
+  one-by at past on t rec.Bad go i next = stops at t i .0
+
+  end-by : (at : ℕ) (t : Table) → I at t → Q (atEnd at t)
+  unfolding atEnd
+  end-by at t i = by-test Q (eqb (t .«thread_count») 0) (λ z. stops at t i .1) (λ z. ends at t (positive (t .«thread_count») z) i)
+
+  from-by : (n at : ℕ) (bs : List ℕ) (t : Table) → I at t → Q (readFrom n at bs t)
+  unfolding readFrom
+  from-by zero at bs t i = end-by at t i
+  from-by (suc n) at [] t i = end-by at t i
+  from-by (suc n) at (k ∷ bs) t i =
+      one-by at (at + 1 + bodyLength k) (omega (arith, body-small k)) t (recordOf k bs) _ i (λ u v. from-by n (at + 1 + bodyLength k) (drop (bodyLength k) bs) u v)
+
+  pub read-by : (bs : List ℕ) → I 0 emptyTable → Q (readTable bs)
+  unfolding readTable
+  read-by bs i = from-by (length bs) 0 bs emptyTable i
+
+-- "At most 16 objects, 1 to 6 threads, 0 to 32 operations a thread"; the places for operations and counts are all there
+pub record Within (t : Table) : Type 0 where
+  pub objects : t .«object_count» ≤ 16
+  pub threads : t .«thread_count» ≤ 6
+  pub ops : length (t .ops) ≡ 192
+  pub counts : length (t .counts) ≡ 6
+  pub most : (k : ℕ) → getD (t .counts) k 0 ≤ 32
+
+-- one count more, where there was room
+count-most : (counts : List ℕ) (i n : ℕ) → n ≤ 32 → ((k : ℕ) → getD counts k 0 ≤ 32) → (k : ℕ) → getD (set counts i n) k 0 ≤ 32
+count-most [] i n l h k = h k
+count-most (x ∷ counts) zero n l h zero = l
+count-most (x ∷ counts) zero n l h (suc k) = h (suc k)
+count-most (x ∷ counts) (suc i) n l h zero = h 0
+count-most (x ∷ counts) (suc i) n l h (suc k) = count-most counts i n l (λ j. h (suc j)) k
+
+no-count : (n k : ℕ) → getD (replicate n 0) k 0 ≤ 32
+no-count zero k = omega arith
+no-count (suc n) zero = omega arith
+no-count (suc n) (suc k) = no-count n k
+
+empty-within : Within emptyTable
+unfolding emptyTable
+empty-within = record { objects = omega arith; threads = omega arith; ops = refl; counts = refl; most = no-count 6 }
+
+op-within : (t : Table) (op : Op) → lastCount t < 32 → Within t → Within (withOp t op)
+unfolding withOp
+op-within t op l w =
+    record {
+      objects = w .objects;
+      threads = w .threads;
+      ops = length-set (t .ops) _ op ∙ w .ops;
+      counts = length-set (t .counts) _ _ ∙ w .counts;
+      most = count-most (t .counts) _ (lastCount t + 1) (omega (arith, l)) (w .most);
+    }
+
+object-within : (t : Table) (m : Made) → t .«object_count» < 16 → Within t → Within (withObject t m)
+unfolding withObject
+object-within t m l w = record { objects = omega (arith, l); threads = w .threads; ops = w .ops; counts = w .counts; most = w .most }
+
+thread-within : (t : Table) → t .«thread_count» < 6 → Within t → Within (withThread t)
+unfolding withThread
+thread-within t l w = record { objects = w .objects; threads = omega (arith, l); ops = w .ops; counts = w .counts; most = w .most }
+
+abbrev Ends : Read → Type 0
+Ends r = (table : Table) → r ≡ accepted table → Within table × (0 < table .«thread_count»)
+
+never : (a : Answer) → Ends (refused a)
+never a table e = let q : _≡_ {A = ℕ} 0 1 = cc in absurd (omega (arith, q))
+
+-- what is accepted is within the limits, and has a thread
+pub read-within : (bs : List ℕ) → Ends (readTable bs)
+read-within bs =
+    read-by (λ at t. Within t) Ends (λ at t w. (never (BadRecord at), never (TooMany at), never (BadObject at))) (λ at past t m on z l w. object-within t m l w)
+    (λ at past t on l w. thread-within t l w) (λ at past t op on some l w. op-within t op l w)
+    (λ at t some w table e. let same : t ≡ table = cc in rw (← same) (w, some)) bs empty-within

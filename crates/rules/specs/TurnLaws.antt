@@ -1,4 +1,4 @@
--- What a turn's verdicts are: "A list is complete when it gives 0 to 5", and every verdict of a decision is one of those.
+-- What a turn comes to: it is never refused, and its verdict is one of 0 to 5, "A list is complete when it gives 0 to 5".
 use mathlib.Core.Path.{_≡_}
 use mathlib.Core.List.{List, [], _∷_}
 use Prim.Native.Nat.{ℕ, suc, _≤_}
@@ -31,65 +31,85 @@ use Rattle.rules.specs.TableLaws.{by-test}
 use Rattle.rules.specs.Announce.{isFree, asks}
 use Rattle.rules.specs.Turn.{allEnded, anyRunnable, leakCheck, afterStep, endingOf, goOn, thereafter, operation, turnOf, begin, question, decideAt, decide, entryIn, threadIn}
 
--- a verdict's number is 0 to 5
-abbrev Told : Step → Type 0
-Told Refused = Unit {0}
-Told (Done a) = numbersOf a .number ≤ 5
-Told Wants = Unit {0}
+-- what a turn comes to: it is not refused, and a verdict's number is 0 to 5
+abbrev pub Said : Step → Type 0
+Said Refused = ⊥
+Said (Done a) = numbersOf a .number ≤ 5
+Said Wants = Unit {0}
 
 abbrev Fine : Decided → Type 0
-Fine r = Told (r .step)
+Fine r = Said (r .step)
 
 leak-told : (k : ℕ) (es : List Entry) → numbersOf (leakCheck k es) .number ≤ 5
 unfolding leakCheck numbersOf
 leak-told k [] = omega arith
 leak-told k (e ∷ es) = by-test (λ (a : Answer). numbersOf a .number ≤ 5) (leaks (e .kind) e) (λ l. omega arith) (λ l. leak-told (suc k) es)
 
-after-told : (ts : List Thread) (es : List Entry) → Told (afterStep ts es)
+pub after-said : (ts : List Thread) (es : List Entry) → Said (afterStep ts es)
 unfolding afterStep numbersOf
-after-told ts es = by-test Told (allEnded ts) (λ a. leak-told 0 es) (λ a. by-test Told (anyRunnable ts) (λ r. tt) (λ r. omega arith))
+after-said ts es = by-test Said (allEnded ts) (λ a. leak-told 0 es) (λ a. by-test Said (anyRunnable ts) (λ r. tt) (λ r. omega arith))
 
-ending-told : (e : Ending) (s : Spot) (shown : World) (next : Decided) → Fine next → Fine (endingOf e s shown next)
+ending-said : (e : Ending) (s : Spot) (shown : World) (next : Decided) → Fine next → Fine (endingOf e s shown next)
 unfolding endingOf numbersOf
-ending-told ending.Fine s shown next f = f
-ending-told ending.Misuse s shown next f = omega arith
-ending-told ending.NoRoom s shown next f = omega arith
-ending-told (ending.Race o) s shown next f = omega arith
+ending-said ending.Fine s shown next f = f
+ending-said ending.Misuse s shown next f = omega arith
+ending-said ending.NoRoom s shown next f = omega arith
+ending-said (ending.Race o) s shown next f = omega arith
 
-go-told : (t : ThreadId) (ops : List Op) (w : World) → Fine (goOn t ops w)
+go-said : (t : ThreadId) (ops : List Op) (w : World) → Fine (goOn t ops w)
 unfolding goOn
-go-told t [] w = after-told _ _
-go-told t (op ∷ ops) w =
-    by-test Fine (isFree (op .call)) (λ b. ending-told _ _ w _ (go-told t ops _))
-    (λ b. by-test Fine (asks (op .call) (entryIn w (op .object))) (λ q. tt) (λ q. after-told _ _))
+go-said t [] w = after-said _ _
+go-said t (op ∷ ops) w =
+    by-test Fine (isFree (op .call)) (λ b. ending-said _ _ w _ (go-said t ops _))
+    (λ b. by-test Fine (asks (op .call) (entryIn w (op .object))) (λ q. tt) (λ q. after-said _ _))
 
-then-told : (c : Call) (t : ThreadId) (ops : List Op) (w : World) → Fine (thereafter c t ops w)
+then-said : (c : Call) (t : ThreadId) (ops : List Op) (w : World) → Fine (thereafter c t ops w)
 unfolding thereafter
-then-told (Mutex c) t ops w = go-told t ops _
-then-told (RwLock c) t ops w = go-told t ops _
-then-told (Condvar (condvar-call.Wait m)) t ops w = after-told _ _
-then-told (Condvar condvar-call.NotifyOne) t ops w = go-told t ops _
-then-told (Condvar condvar-call.NotifyAll) t ops w = go-told t ops _
-then-told (Notify c) t ops w = go-told t ops _
-then-told (Channel c) t ops w = go-told t ops _
-then-told (Arc c) t ops w = go-told t ops _
-then-told (Cell c) t ops w = go-told t ops _
+then-said (Mutex c) t ops w = go-said t ops _
+then-said (RwLock c) t ops w = go-said t ops _
+then-said (Condvar (condvar-call.Wait m)) t ops w = after-said _ _
+then-said (Condvar condvar-call.NotifyOne) t ops w = go-said t ops _
+then-said (Condvar condvar-call.NotifyAll) t ops w = go-said t ops _
+then-said (Notify c) t ops w = go-said t ops _
+then-said (Channel c) t ops w = go-said t ops _
+then-said (Arc c) t ops w = go-said t ops _
+then-said (Cell c) t ops w = go-said t ops _
 
-operation-told : (t : ThreadId) (op : Op) (ops : List Op) (w : World) → Fine (operation t op ops w)
+operation-said : (t : ThreadId) (op : Op) (ops : List Op) (w : World) → Fine (operation t op ops w)
 unfolding operation
-operation-told t op ops w = ending-told _ _ w _ (then-told (op .call) t ops _)
+operation-said t op ops w = ending-said _ _ w _ (then-said (op .call) t ops _)
 
-turn-told : (p : Phase) (t : ThreadId) (ops : List Op) (w : World) → Fine (turnOf p t ops w)
+pub turn-said : (p : Phase) (t : ThreadId) (ops : List Op) (w : World) → Fine (turnOf p t ops w)
 unfolding turnOf
-turn-told Nothing t ops w = go-told t ops _
-turn-told (Announced p) t ops w = operation-told t _ _ w
-turn-told Parked t ops w = after-told _ _
-turn-told (Retaking p) t ops w = operation-told t _ _ w
+turn-said Nothing t ops w = go-said t ops _
+turn-said (Announced p) t ops w = operation-said t _ _ w
+turn-said Parked t ops w = after-said _ _
+turn-said (Retaking p) t ops w = operation-said t _ _ w
 
-decide-told : (a : Asked) (table : Table) (w : World) (d : ℕ) → Fine (decideAt a table w d)
+-- a decision may be refused as well
+abbrev Told : Step → Type 0
+Told Refused = Unit {0}
+Told (Done a) = numbersOf a .number ≤ 5
+Told Wants = Unit {0}
+
+abbrev FineIf : Decided → Type 0
+FineIf r = Told (r .step)
+
+said-told : (s : Step) → Said s → Told s
+said-told Refused h = absurd h
+said-told (Done a) h = h
+said-told Wants h = tt
+
+after-told : (ts : List Thread) (es : List Entry) → Told (afterStep ts es)
+after-told ts es = said-told (afterStep ts es) (after-said ts es)
+
+turn-told : (p : Phase) (t : ThreadId) (ops : List Op) (w : World) → FineIf (turnOf p t ops w)
+turn-told p t ops w = said-told (turnOf p t ops w .step) (turn-said p t ops w)
+
+decide-told : (a : Asked) (table : Table) (w : World) (d : ℕ) → FineIf (decideAt a table w d)
 unfolding decideAt begin question
-decide-told asked.Nobody table w d = by-test Fine (isRunnable (threadIn w (record { 0 = d }) .state)) (λ r. turn-told _ _ _ _) (λ r. tt)
-decide-told (asked.Thread t) table w d = by-test Fine (eqb d 0) (λ z. after-told _ _) (λ z. by-test Fine (eqb d 1) (λ o. after-told _ _) (λ o. tt))
+decide-told asked.Nobody table w d = by-test FineIf (isRunnable (threadIn w (record { 0 = d }) .state)) (λ r. turn-told _ _ _ _) (λ r. tt)
+decide-told (asked.Thread t) table w d = by-test FineIf (eqb d 0) (λ z. after-told _ _) (λ z. by-test FineIf (eqb d 1) (λ o. after-told _ _) (λ o. tt))
 
 -- a decision's verdict is one of 0 to 5
 pub verdict-number : (table : Table) (w : World) (d : ℕ) (a : Answer) → decide table w d .step ≡ Done a → numbersOf a .number ≤ 5

@@ -42,7 +42,7 @@ use Rattle.rules.specs.TableLaws.{by-test, split}
 use Rattle.rules.specs.Table.{noOp, opsOf}
 use Rattle.rules.specs.Announce.{isFree, actionOf, isDisabled, asks}
 use Rattle.rules.specs.Effect.{effect}
-use Rattle.rules.specs.Turn.{threadIn, entryIn, withThreads, withAsked, afterTurn, afterStep, allEnded, anyRunnable, announceOp, retake, dependence, operate, advance, ended, park, wait, settled, endingOf, goOn, thereafter, operation, mutexOf, turnOf, opsLeft, begin, spurious, question, decideAt, decide}
+use Rattle.rules.specs.Turn.{threadIn, entryIn, withThreads, withTurn, withAsked, afterTurn, afterStep, allEnded, anyRunnable, announceOp, retake, dependence, operate, advance, ended, park, wait, settled, endingOf, goOn, thereafter, operation, mutexOf, turnOf, opsLeft, begin, spurious, question, decideAt, decide}
 use Rattle.rules.specs.Walk.{waitsFor, leftIn, askedOf, left}
 use Rattle.walk.specs.Shape.{Shape, shape, shapes, Tidy, effect-keeps, others-keeps}
 use Rattle.walk.specs.Stage.{SoundIn, opsAt, leftAt, total, Sound, Sounds, sounds-at, Stage, stage-keeps, stage-put, left-total}
@@ -134,26 +134,21 @@ module _ (table : Table) (t : ThreadId) (within : t .0 < 6) (R B : ℕ) where
       let e : shape (withPhase (withState (threadAt (w .threads) t) state.Ended) phase.Nothing) ≡ z = ap (λ (s : Shape). record { position = s .position; phase = phase.Nothing; ended = true }) (g .here) in
       after-then z (withThreads w _) nobody (stage-put table t R (going p) (w .threads) g within _ z e (λ q. refl) tt) (omega (arith, room))
 
-  -- an operation is announced, or a mutex retaken
-  announced-shape : (p : ℕ) (q : Phase) (b : Bool) (x : Thread) → shape x ≡ going p → shape (announced q b x) ≡ record { position = p; phase = q; ended = false }
+  -- an operation is announced, or a mutex retaken, whatever was announced before
+  announced-shape : (p : ℕ) (f q : Phase) (b : Bool) (x : Thread) → shape x ≡ record { position = p; phase = f; ended = false } → shape (announced q b x) ≡ record { position = p; phase = q; ended = false }
   unfolding announced
-  announced-shape p q true x e = ap (λ (s : Shape). record { position = s .position; phase = q; ended = false }) e
-  announced-shape p q false x e = ap (λ (s : Shape). record { position = s .position; phase = q; ended = s .ended }) e
-
-  parked-shape : (p : ℕ) (q : Phase) (b : Bool) (x : Thread) → shape x ≡ record { position = p; phase = phase.Parked; ended = false } → shape (announced q b x) ≡ record { position = p; phase = q; ended = false }
-  unfolding announced
-  parked-shape p q true x e = ap (λ (s : Shape). record { position = s .position; phase = q; ended = false }) e
-  parked-shape p q false x e = ap (λ (s : Shape). record { position = s .position; phase = q; ended = s .ended }) e
+  announced-shape p f q true x e = ap (λ (s : Shape). record { position = s .position; phase = q; ended = false }) e
+  announced-shape p f q false x e = ap (λ (s : Shape). record { position = s .position; phase = q; ended = s .ended }) e
 
   announce-then : (p : ℕ) (op : Op) (e : Entry) (w : World) → w .asked ≡ asked.Nobody → Stage table t R (going p) (w .threads) → (ops : List Op) → drop p (opsOf table (t .0)) ≡ op ∷ ops
       → R + 3 * suc (length ops) - waitsFor (op .call) < B → After table B (afterTurn (withThreads w (announceOp t op e (w .threads))))
   unfolding announceOp leftIn
   announce-then p op e w nobody g ops q less =
-      let z : Shape = record { position = p; phase = phase.Announced _; ended = false } in
+      let z : Shape = record { position = p; phase = phase.Announced (record { obj = op .object; action = actionOf (op .call) }); ended = false } in
       let sound : 0 < length (drop p (opsOf table (t .0))) = rw q (omega arith) in
       let n : leftAt table (t .0) z ≡ 3 * suc (length ops) - waitsFor (op .call) = ap (λ (os : List Op). 3 * length os - waitsFor (getD os 0 noOp .call)) q in
       after-then z (withThreads w _) nobody
-      (stage-put table t R (going p) (w .threads) g within _ z (announced-shape p _ (isDisabled (op .call) e) (threadAt (w .threads) t) (g .here)) (λ f. absurd (false≢true f)) sound)
+      (stage-put table t R (going p) (w .threads) g within _ z (announced-shape p phase.Nothing (z .phase) (isDisabled (op .call) e) (threadAt (w .threads) t) (g .here)) (λ f. absurd (false≢true f)) sound)
       (omega (arith, n, less, wait-small (op .call)))
 
   -- an ending: a failing step is a verdict
@@ -170,6 +165,9 @@ module _ (table : Table) (t : ThreadId) (within : t .0 < 6) (R B : ℕ) where
     unfolding advance
     advanced p ts g =
         stage-put table t R (going p) ts g within _ (going (risen 255 p)) (ap (λ (s : Shape). record { position = risen 255 (s .position); phase = s .phase; ended = s .ended }) (g .here)) (λ f. absurd (false≢true f)) tt
+
+    left-one : (p : ℕ) (op : Op) (later : List Op) → drop p (opsOf table (t .0)) ≡ op ∷ later → 0 < length (drop p (opsOf table (t .0)))
+    left-one p op later q = rw q (omega arith)
 
     later-ops : (p : ℕ) (op : Op) (ops : List Op) → drop p (opsOf table (t .0)) ≡ op ∷ ops → drop (risen 255 p) (opsOf table (t .0)) ≡ ops
     later-ops p op ops q = next p ∙ ap (λ (os : List Op). drop 1 os) q
@@ -211,34 +209,38 @@ module _ (table : Table) (t : ThreadId) (within : t .0 < 6) (R B : ℕ) where
         by-test (After table B) (asks (op .call) e) (λ a. asked-then p op ops w g q (asks-wait (op .call) e a) room)
         (λ a. announce-then p op e w nobody g ops q (omega (arith, room))))
 
+    -- the retaking of a mutex is announced, by a wait at once or by a parked thread that was woken
+    retaken-then : (p : ℕ) (f : Phase) (m : ObjectId) (e : Entry) (w : World) (ts : List Thread) → w .asked ≡ asked.Nobody
+        → Stage table t R (record { position = p; phase = f; ended = false }) ts → (op : Op) (later : List Op) → drop p (opsOf table (t .0)) ≡ op ∷ later
+        → R + (3 * suc (length later) - 2) < B → After table B (afterTurn (withThreads w (retake t m e ts)))
+    unfolding retake leftIn
+    retaken-then p f m e w ts nobody g op later q less =
+        let z : Shape = record { position = p; phase = phase.Retaking (record { obj = m; action = action.Opaque }); ended = false } in
+        let n : leftAt table (t .0) z ≡ 3 * suc (length later) - 2 = ap (λ (os : List Op). 3 * length os - 2) q in
+        after-then z (withThreads w _) nobody
+        (stage-put table t R _ ts g within _ z (announced-shape p f (z .phase) (mutex.isLocked (e .mutex .lock)) (threadAt ts t) (g .here)) (λ h. absurd (false≢true h)) (left-one p op later q))
+        (omega (arith, n, less))
+
     -- a wait, once it is queued: parked, or retaking its mutex at once
     park-then : (p : ℕ) (m : ObjectId) (e : Entry) (w : World) (ts : List Thread) → w .asked ≡ asked.Nobody → Stage table t R (going p) ts → (op : Op) (later : List Op)
         → drop p (opsOf table (t .0)) ≡ op ∷ later → R + 3 * suc (length later) ≤ B → After table B (afterTurn (withThreads w (park t m e ts)))
-    unfolding park retake leftIn
+    unfolding park leftIn
     park-then p m e w ts nobody g op later q room =
         by-test (λ (us : List Thread). After table B (afterTurn (withThreads w us))) (hasUnpark (threadAt ts t .state)) (λ h. retaken) (λ h. parked)
       where
-        sound : 0 < length (drop p (opsOf table (t .0)))
-        sound = rw q (omega arith)
-
         parked : After table B (afterTurn (withThreads w (putThread ts t (withPhase (setBlocked (threadAt ts t)) phase.Parked))))
         parked =
             let z : Shape = record { position = p; phase = phase.Parked; ended = false } in
             let n : leftAt table (t .0) z ≡ 3 * suc (length later) - 1 = ap (λ (os : List Op). 3 * length os - 1) q in
             after-then z (withThreads w _) nobody
-            (stage-put table t R (going p) ts g within _ z (ap (λ (s : Shape). record { position = s .position; phase = phase.Parked; ended = false }) (g .here)) (λ f. absurd (false≢true f)) sound)
+            (stage-put table t R (going p) ts g within _ z (ap (λ (s : Shape). record { position = s .position; phase = phase.Parked; ended = false }) (g .here)) (λ f. absurd (false≢true f)) (left-one p op later q))
             (omega (arith, n, room))
 
         ready : Stage table t R (going p) (putThread ts t (setRunnable (threadAt ts t)))
         ready = stage-put table t R (going p) ts g within _ (going p) (ap (λ (s : Shape). record { position = s .position; phase = s .phase; ended = false }) (g .here)) (λ f. absurd (false≢true f)) tt
 
         retaken : After table B (afterTurn (withThreads w (retake t m e (putThread ts t (setRunnable (threadAt ts t))))))
-        retaken =
-            let z : Shape = record { position = p; phase = phase.Retaking (record { obj = m; action = action.Opaque }); ended = false } in
-            let n : leftAt table (t .0) z ≡ 3 * suc (length later) - 2 = ap (λ (os : List Op). 3 * length os - 2) q in
-            after-then z (withThreads w _) nobody
-            (stage-put table t R (going p) _ ready within _ z (announced-shape p (z .phase) (mutex.isLocked (e .mutex .lock)) _ (ready .here)) (λ f. absurd (false≢true f)) sound)
-            (omega (arith, n, room))
+        retaken = retaken-then p phase.Nothing m e w _ nobody ready op later q (omega (arith, room))
 
     wait-then : (p : ℕ) (m : ObjectId) (w : World) → w .asked ≡ asked.Nobody → Stage table t R (going p) (w .threads) → (op : Op) (later : List Op)
         → drop p (opsOf table (t .0)) ≡ op ∷ later → R + 3 * suc (length later) ≤ B → After table B (afterTurn (settled w m (wait t m (entryIn w m) (w .threads))))
@@ -281,24 +283,13 @@ module _ (table : Table) (t : ThreadId) (within : t .0 < 6) (R B : ℕ) where
         let b : Stage table t R (going p) (r .threads) = stage-keeps table t R (going p) _ a within (r .threads) (effect-keeps t (op .object) _ _ (a .tidy) (op .call)) in
         ending-then (r .ending) _ _ w (thereafter-then (op .call) p _ nobody b head later q room wide)
 
-    -- a parked thread that was woken announces the retaking
-    retaken-then : (p : ℕ) (m : ObjectId) (e : Entry) (w : World) → w .asked ≡ asked.Nobody → Stage table t R (record { position = p; phase = phase.Parked; ended = false }) (w .threads)
-        → (z : Shape) → z ≡ record { position = p; phase = phase.Retaking (record { obj = m; action = action.Opaque }); ended = false } → R + leftAt table (t .0) z < B
-        → 0 < length (drop p (opsOf table (t .0))) → After table B (afterTurn (withThreads w (retake t m e (w .threads))))
-    unfolding retake
-    retaken-then p m e w nobody g z k less sound =
-        let y : Shape = record { position = p; phase = phase.Retaking (record { obj = m; action = action.Opaque }); ended = false } in
-        after-then y (withThreads w _) nobody
-        (stage-put table t R _ (w .threads) g within _ y (parked-shape p (y .phase) (mutex.isLocked (e .mutex .lock)) (threadAt (w .threads) t) (g .here)) (λ f. absurd (false≢true f)) sound)
-        (subst (λ (x : Shape). R + leftAt table (t .0) x < B) k less)
-
     -- the turn of a thread, by its phase
     turn-then : (f : Phase) (p : ℕ) (w : World) → w .asked ≡ asked.Nobody → Stage table t R (record { position = p; phase = f; ended = false }) (w .threads)
         → B ≡ R + leftIn f (drop p (opsOf table (t .0))) → (ops : List Op) → drop p (opsOf table (t .0)) ≡ ops → SoundIn f ops → After table B (turnOf f t ops w)
     unfolding turnOf leftIn
     turn-then phase.Nothing p w nobody g b ops q sound =
         let n : 3 * length (drop p (opsOf table (t .0))) + 1 ≡ 3 * length ops + 1 = ap (λ (os : List Op). 3 * length os + 1) q in
-        go-then ops p _ nobody (record { long = g .long; tidy = g .tidy; sounds = g .sounds; here = g .here; rest = g .rest }) q (omega (arith, b, n))
+        go-then ops p _ nobody g q (omega (arith, b, n))
     turn-then (phase.Announced x) p w nobody g b [] q sound = absurd (omega (arith, sound))
     turn-then (phase.Announced x) p w nobody g b (op ∷ later) q sound =
         let n : 3 * length (drop p (opsOf table (t .0))) - waitsFor (getD (drop p (opsOf table (t .0))) 0 noOp .call) ≡ 3 * suc (length later) - waitsFor (op .call) =
@@ -307,11 +298,8 @@ module _ (table : Table) (t : ThreadId) (within : t .0 < 6) (R B : ℕ) where
     turn-then phase.Parked p w nobody g b [] q sound = absurd (omega (arith, sound))
     turn-then phase.Parked p w nobody g b (op ∷ later) q sound =
         let m : ObjectId = mutexOf (op .call) in
-        let z : Shape = record { position = p; phase = phase.Retaking (record { obj = m; action = action.Opaque }); ended = false } in
-        let n : leftAt table (t .0) z ≡ 3 * suc (length later) - 2 = ap (λ (os : List Op). 3 * length os - 2) q in
         let k : 3 * length (drop p (opsOf table (t .0))) - 1 ≡ 3 * suc (length later) - 1 = ap (λ (os : List Op). 3 * length os - 1) q in
-        let s : 0 < length (drop p (opsOf table (t .0))) = rw q (omega arith) in
-        retaken-then p m (entryIn w m) _ nobody g z refl (omega (arith, n, k, b)) s
+        retaken-then p phase.Parked m (entryIn w m) (withTurn w (risen 65535 (w .turn))) (w .threads) nobody g op later q (omega (arith, k, b))
     turn-then (phase.Retaking x) p w nobody g b [] q sound = absurd (omega (arith, sound))
     turn-then (phase.Retaking x) p w nobody g b (op ∷ later) q sound =
         let n : 3 * length (drop p (opsOf table (t .0))) - 2 ≡ 3 * suc (length later) - 2 = ap (λ (os : List Op). 3 * length os - 2) q in
@@ -411,7 +399,7 @@ module _ (table : Table) (w : World) (g : Good table w) (next : (k p : ℕ) → 
           let head : getD (opsLeft table w t) 0 noOp ≡ op = ap (λ (os : List Op). getD os 0 noOp) q in
           let one : waitsFor (getD (opsLeft table w t) 0 noOp .call) ≡ 1 = r .3 in
           let n : leftAt table (t .0) (going p) ≡ 3 * suc (length later) + 1 = going-left table t p (op ∷ later) q in
-          announce-then table t (r .0) (others t) (left table w) p _ _ v refl (record { long = a .long; tidy = a .tidy; sounds = a .sounds; here = a .here; rest = a .rest }) later
+          announce-then table t (r .0) (others t) (left table w) p _ _ v refl a later
           (q ∙ ap (λ (x : Op). x ∷ later) (sym head)) (omega (arith, one, n, b, a .rest))
 
       woken : (ops : List Op) → opsLeft table w t ≡ ops → After table (left table w) (afterTurn (spurious t (getD (opsLeft table w t) 0 noOp) v))

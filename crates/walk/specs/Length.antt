@@ -22,7 +22,7 @@ use Rattle.rules.specs.declared.world.Asked.the-variants as asked
 use Rattle.rules.specs.declared.world.World.{World}
 use Rattle.rules.specs.Ground.{absent}
 use Rattle.rules.specs.Table.{opsOf, noOp}
-use Rattle.rules.specs.TableLaws.{by-test, ops-next}
+use Rattle.rules.specs.TableLaws.{by-test, ops-next, Within}
 use Rattle.rules.specs.Turn.{threadIn, startThread, start}
 use Rattle.rules.specs.Judge.{Verdict, step}
 use Rattle.rules.specs.Walk.{leftIn, askedOf, left}
@@ -31,7 +31,7 @@ use Rattle.walk.specs.Shape.{Shape, shape, shapes}
 use Rattle.walk.specs.Stage.{SoundIn, opsAt, leftShape, leftAt, total}
 use Rattle.walk.specs.Falling.{Good, Ready, left-sum, wait-small, total-at, sound-here, runnable-within, runs, asked-one, asked-none}
 use Rattle.walk.specs.Machine.{some-runnable, keeps, falls}
-use Rattle.walk.specs.Accepted.{Within, start-good}
+use Rattle.walk.specs.Accepted.{start-good}
 
 going : (ops : List Op) → leftIn phase.Nothing ops ≡ 3 * length ops + 1
 unfolding leftIn

@@ -10,18 +10,8 @@ use borrow.Author.Tests.{ne-eqb}
 use Rattle.clocks.specs.Clock.{risen}
 use Rattle.clocks.specs.declared.thread.ThreadId.{ThreadId}
 use Rattle.lists.specs.Rules as outcome
-use Rattle.rules.specs.declared.object.Entry.{Entry}
-use Rattle.rules.specs.declared.object.Ending.{Ending}
-use Rattle.rules.specs.declared.object.Ending.the-variants as ending
-use Rattle.rules.specs.declared.condvar.Call.the-variants as condvar-call
-use Rattle.rules.specs.declared.thread.Phase.{Phase}
-use Rattle.rules.specs.declared.thread.Phase.the-variants.{Nothing, Announced, Parked, Retaking}
 use Rattle.rules.specs.declared.thread.Thread.{Thread}
-use Rattle.rules.specs.declared.table.Call.{Call}
-use Rattle.rules.specs.declared.table.Call.the-variants.{Mutex, RwLock, Condvar, Notify, Channel, Arc, Cell}
-use Rattle.rules.specs.declared.table.Op.{Op}
 use Rattle.rules.specs.declared.table.Table.{Table}
-use Rattle.rules.specs.declared.answer.Spot.{Spot}
 use Rattle.rules.specs.declared.world.Asked.{Asked}
 use Rattle.rules.specs.declared.world.Asked.the-variants as asked
 use Rattle.rules.specs.declared.world.Step.{Step}
@@ -29,73 +19,25 @@ use Rattle.rules.specs.declared.world.Step.the-variants.{Refused, Done, Wants}
 use Rattle.rules.specs.declared.world.World.{World}
 use Rattle.rules.specs.declared.world.Decided.{Decided}
 use Rattle.rules.specs.Ground.{absent, isRunnable}
-use Rattle.rules.specs.TableLaws.{by-test, split}
+use Rattle.rules.specs.TableLaws.{split}
+use Rattle.rules.specs.TurnLaws.{Said, after-said, turn-said}
 use Rattle.rules.specs.Table.{opsOf}
-use Rattle.rules.specs.Announce.{isFree, asks}
-use Rattle.rules.specs.Turn.{threadIn, entryIn, afterStep, allEnded, anyRunnable, endingOf, goOn, thereafter, operation, turnOf, begin, question, decideAt, decide}
+use Rattle.rules.specs.Turn.{threadIn, anyRunnable, begin, question, decideAt, decide}
 use Rattle.rules.specs.Walk.{left}
 use Rattle.rules.specs.Judge.{outcomeOf, step}
 use Rattle.walk.specs.Falling.{Good, Then, Ready, decide-then}
 
--- a turn of a runnable thread is never refused
-abbrev Open : Step → Type 0
-Open Refused = ⊥
-Open (Done a) = Unit {0}
-Open Wants = Unit {0}
-
-abbrev Opens : Decided → Type 0
-Opens r = Open (r .step)
-
-after-open : (ts : List Thread) (es : List Entry) → Open (afterStep ts es)
-unfolding afterStep
-after-open ts es = by-test Open (allEnded ts) (λ a. tt) (λ a. by-test Open (anyRunnable ts) (λ r. tt) (λ r. tt))
-
-ending-open : (e : Ending) (s : Spot) (shown : World) (next : Decided) → Opens next → Opens (endingOf e s shown next)
-unfolding endingOf
-ending-open ending.Fine s shown next h = h
-ending-open ending.Misuse s shown next h = tt
-ending-open ending.NoRoom s shown next h = tt
-ending-open (ending.Race o) s shown next h = tt
-
-go-open : (t : ThreadId) (ops : List Op) (w : World) → Opens (goOn t ops w)
-unfolding goOn
-go-open t [] w = after-open _ _
-go-open t (op ∷ ops) w =
-    by-test Opens (isFree (op .call)) (λ b. ending-open _ _ w _ (go-open t ops _)) (λ b. by-test Opens (asks (op .call) (entryIn w (op .object))) (λ q. tt) (λ q. after-open _ _))
-
-then-open : (c : Call) (t : ThreadId) (ops : List Op) (w : World) → Opens (thereafter c t ops w)
-unfolding thereafter
-then-open (Mutex c) t ops w = go-open t ops _
-then-open (RwLock c) t ops w = go-open t ops _
-then-open (Condvar (condvar-call.Wait m)) t ops w = after-open _ _
-then-open (Condvar condvar-call.NotifyOne) t ops w = go-open t ops _
-then-open (Condvar condvar-call.NotifyAll) t ops w = go-open t ops _
-then-open (Notify c) t ops w = go-open t ops _
-then-open (Channel c) t ops w = go-open t ops _
-then-open (Arc c) t ops w = go-open t ops _
-then-open (Cell c) t ops w = go-open t ops _
-
-operation-open : (t : ThreadId) (op : Op) (ops : List Op) (w : World) → Opens (operation t op ops w)
-unfolding operation
-operation-open t op ops w = ending-open _ _ w _ (then-open (op .call) t ops _)
-
-turn-open : (p : Phase) (t : ThreadId) (ops : List Op) (w : World) → Opens (turnOf p t ops w)
-unfolding turnOf
-turn-open Nothing t ops w = go-open t ops _
-turn-open (Announced p) t ops w = operation-open t _ _ w
-turn-open Parked t ops w = after-open _ _
-turn-open (Retaking p) t ops w = operation-open t _ _ w
-
-begin-open : (table : Table) (w : World) (t : ThreadId) → isRunnable (threadIn w t .state) ≡ true → Opens (begin table w t)
+-- a turn of a runnable thread is not refused
+begin-said : (table : Table) (w : World) (t : ThreadId) → isRunnable (threadIn w t .state) ≡ true → Said (begin table w t .step)
 unfolding begin
-begin-open table w t r = rw (begin, r) (turn-open _ t _ w)
+begin-said table w t r = rw (begin, r) (turn-said _ t _ w)
 
 -- an outcome that is not refused
-open-allowed : (s : Step) (w : World) → Open s → outcomeOf s w ≡ outcome.refused → ⊥
+said-allowed : (s : Step) (w : World) → Said s → outcomeOf s w ≡ outcome.refused → ⊥
 unfolding outcomeOf
-open-allowed Refused w h e = h
-open-allowed (Done a) w h e = let q : _≡_ {A = ℕ} 0 1 = cc in omega (arith, q)
-open-allowed Wants w h e = let q : _≡_ {A = ℕ} 0 1 = cc in omega (arith, q)
+said-allowed Refused w h e = h
+said-allowed (Done a) w h e = let q : _≡_ {A = ℕ} 0 1 = cc in omega (arith, q)
+said-allowed Wants w h e = let q : _≡_ {A = ℕ} 0 1 = cc in omega (arith, q)
 
 -- somebody is runnable
 pub some-runnable : (ts : List Thread) → anyRunnable ts ≡ true → (i : ℕ) × (isRunnable (getD ts i absent .state) ≡ true)
@@ -122,19 +64,19 @@ module _ (table : Table) (next : (k p : ℕ) → drop (risen 255 p) (opsOf table
       go : (a : Asked) → w .asked ≡ a → Ready table (w .asked) (w .threads) → (d : ℕ) × (outcomeOf (decideAt (w .asked) table w d .step) (decideAt (w .asked) table w d .world) ≡ outcome.refused → ⊥)
       go asked.Nobody e r =
           let who = some-runnable (w .threads) (subst (λ (x : Asked). Ready table x (w .threads)) e r) in
-          (who .0, open-allowed _ _ (subst (λ (x : Asked). Opens (decideAt x table w (who .0))) (sym e) (begin-open table w (record { 0 = who .0 }) (who .1))))
-      go (asked.Thread t) e r = (0, open-allowed _ _ (subst (λ (x : Asked). Opens (decideAt x table w 0)) (sym e) (after-open _ _)))
+          (who .0, said-allowed _ _ (subst (λ (x : Asked). Said (decideAt x table w (who .0) .step)) (sym e) (begin-said table w (record { 0 = who .0 }) (who .1))))
+      go (asked.Thread t) e r = (0, said-allowed _ _ (subst (λ (x : Asked). Said (decideAt x table w 0 .step)) (sym e) (after-said _ _)))
 
-  kept : (w : World) (d : ℕ) → Good table w → (s : Step) (v w′ : World) → Then table (left table w) s v → outcomeOf s v ≡ outcome.wants w′ → Good table w′ × (left table w′ < left table w)
+  kept : (w : World) (s : Step) (v w′ : World) → Then table (left table w) s v → outcomeOf s v ≡ outcome.wants w′ → Good table w′ × (left table w′ < left table w)
   unfolding outcomeOf
-  kept w d g Refused v w′ h e = let q : _≡_ {A = ℕ} 0 1 = cc in absurd (omega (arith, q))
-  kept w d g (Done a) v w′ h e = let q : _≡_ {A = ℕ} 0 1 = cc in absurd (omega (arith, q))
-  kept w d g Wants v w′ h e = let q : v ≡ w′ = cc in subst (λ (x : World). Good table x × (left table x < left table w)) q h
+  kept w Refused v w′ h e = let q : _≡_ {A = ℕ} 0 1 = cc in absurd (omega (arith, q))
+  kept w (Done a) v w′ h e = let q : _≡_ {A = ℕ} 0 1 = cc in absurd (omega (arith, q))
+  kept w Wants v w′ h e = let q : v ≡ w′ = cc in subst (λ (x : World). Good table x × (left table x < left table w)) q h
 
   pub keeps : (w : World) (d : ℕ) (w′ : World) → Good table w → step table w d ≡ outcome.wants w′ → Good table w′
   unfolding step
-  keeps w d w′ g e = kept w d g (decide table w d .step) (decide table w d .world) w′ (decide-then table w g next d) e .0
+  keeps w d w′ g e = kept w (decide table w d .step) (decide table w d .world) w′ (decide-then table w g next d) e .0
 
   pub falls : (w : World) (d : ℕ) (w′ : World) → Good table w → step table w d ≡ outcome.wants w′ → left table w′ < left table w
   unfolding step
-  falls w d w′ g e = kept w d g (decide table w d .step) (decide table w d .world) w′ (decide-then table w g next d) e .1
+  falls w d w′ g e = kept w (decide table w d .step) (decide table w d .world) w′ (decide-then table w g next d) e .1

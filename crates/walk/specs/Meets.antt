@@ -17,8 +17,8 @@ use Rattle.rules.specs.Walk.{decisions, left, firstTable, firstOf, nextTable, n
 use Rattle.rules.specs.Demand.{Complete, First, FirstMust, Next, NextMust, NextOfList}
 use Rattle.walk.specs.Falling.{Good}
 use Rattle.walk.specs.Machine.{bounded, some-allowed, keeps, falls}
-use Rattle.walk.specs.Accepted.{Within, accepted-within, start-good}
-use Rattle.rules.specs.TableLaws.{ops-next}
+use Rattle.walk.specs.Accepted.{start-good}
+use Rattle.rules.specs.TableLaws.{ops-next, Within, read-within}
 use Rattle.rules.specs.Table.{opsOf}
 use Rattle.clocks.specs.Clock.{risen}
 
@@ -51,7 +51,7 @@ first-meets bs buffer = go (readTable bs) refl
   where
     go : (r : Read) → readTable bs ≡ r → FirstMust r buffer (firstTable r buffer)
     go (refused a) e = refl
-    go (accepted t) e = let h = accepted-within bs t e in (_, first-is t (h .0) (h .1), refl)
+    go (accepted t) e = let h = read-within bs t e in (_, first-is t (h .0) (h .1), refl)
 
 pub next-meets : (bs list buffer : List ℕ) → Next bs list buffer (nextOf bs list buffer)
 unfolding nextOf nextTable nextJudged
@@ -66,4 +66,4 @@ next-meets bs list buffer = go (readTable bs) refl
 
     go : (r : Read) → readTable bs ≡ r → NextMust r list buffer (nextTable r list buffer)
     go (refused a) e = refl
-    go (accepted t) e = let h = accepted-within bs t e in by-list t (h .0) (h .1) (judge (step t) 0 (start t) list) refl
+    go (accepted t) e = let h = read-within bs t e in by-list t (h .0) (h .1) (judge (step t) 0 (start t) list) refl

@@ -1,25 +1,23 @@
 -- Every place that the judge names is small: it fits 16 bits.
 use mathlib.Core.Path.{_≡_, refl, _∙_, subst}
 use mathlib.Core.List.{List, [], _∷_}
-use Prim.Native.Nat.{ℕ, zero, suc, _+_, _-_, _*_, _≤_, _<_}
+use Prim.Native.Nat.{ℕ, suc, _+_, _-_, _*_, _≤_, _<_}
 use native.Mathlib.Omega.{arith}
-use lib.Dec.{eqb, ltb, leb}
-use lib.ListN.{length, getD, set, drop, length-set}
+use lib.Dec.{leb}
+use lib.ListN.{length, getD, set, length-set}
 use lib.Seq.{getD-set-same}
-use borrow.Author.Tests.{ltb-true, eqb-true, eqb-false}
 use Rattle.lists.specs.Rules.{Outcome}
 use Rattle.lists.specs.Rules as outcome
 use Rattle.lists.specs.Judge.{Judged, notAllowed, surplus, unfinished, verdict, judgeAt, placeOf, judge}
 use Rattle.rules.specs.declared.table.Table.{Table}
-use Rattle.rules.specs.declared.table.Record.{Record}
-use Rattle.rules.specs.declared.table.Record.the-variants as rec
+use Rattle.rules.specs.declared.table.Op.{Op}
+use Rattle.rules.specs.declared.table.Made.{Made}
 use Rattle.rules.specs.declared.answer.Answer.{Answer}
 use Rattle.rules.specs.declared.answer.Answer.the-variants as answer
 use Rattle.rules.specs.declared.world.World.{World}
 use Rattle.rules.specs.Answer.{numbersOf}
-use Rattle.rules.specs.Table.{Read, refused, accepted, lastCount, objectsFine, withObject, withThread, withOp, objectRecord, threadRecord, operationRecord, oneRecord, atEnd, recordOf, bodyLength, emptyTable, readFrom, readTable}
-use Rattle.rules.specs.TableLaws.{by-test, ops-next, body-small}
-use Rattle.rules.specs.declared.thread.Thread.{Thread}
+use Rattle.rules.specs.Table.{Read, refused, accepted, lastCount, withObject, withThread, withOp, emptyTable, readTable}
+use Rattle.rules.specs.TableLaws.{by-test, ops-next, read-by, Within, read-within}
 use Rattle.rules.specs.Turn.{start}
 use Rattle.rules.specs.Judge.{Verdict, step, Given, shown, judgeTable, judgeOf}
 use Rattle.rules.specs.JudgeLaws.{Told, judge-told}
@@ -29,7 +27,7 @@ use Rattle.rules.specs.Walk.{left}
 use Rattle.walk.specs.Falling.{Good}
 use Rattle.walk.specs.Machine.{keeps, falls}
 use Rattle.walk.specs.Length.{start-left}
-use Rattle.walk.specs.Accepted.{Within, accepted-within, start-good}
+use Rattle.walk.specs.Accepted.{start-good}
 
 abbrev place : Answer → ℕ
 place a = numbersOf a .place
@@ -69,79 +67,40 @@ at-small a h b e = let same : a ≡ b = cc in subst (λ (x : Answer). place x �
 accepted-small : (t : Table) → Small (accepted t)
 accepted-small t a e = let q : _≡_ {A = ℕ} 0 1 = cc in absurd (omega (arith, q))
 
-positive : (n : ℕ) → (n ≡ 0 → ⊥) → 0 < n
-positive zero h = absurd (h refl)
-positive (suc n) h = omega arith
+stops-small : (at : ℕ) (t : Table) → Room at t → Small (refused (answer.BadRecord at)) × Small (refused (answer.TooMany at)) × Small (refused (answer.BadObject at))
+unfolding numbersOf
+stops-small at t r = let small : at ≤ 642 = omega (arith, r .before, r .objects, r .threads) in (at-small _ small, at-small _ small, at-small _ small)
 
-module _ (at past : ℕ) (t : Table) (r : Room at t) (step-on : past ≤ at + 3) where
-  small : at ≤ 642
-  small = omega (arith, r .before, r .objects, r .threads)
+object-room : (at past : ℕ) (t : Table) (m : Made) → past ≤ at + 3 → t .«thread_count» ≡ 0 → t .«object_count» < 16 → Room at t → Room past (withObject t m)
+unfolding withObject
+object-room at past t m on none l r =
+    record { before = omega (arith, r .before, on); inside = λ some. absurd (omega (arith, some, none)); objects = omega (arith, l); threads = r .threads; counts = r .counts }
 
-  one-small : (x : Record) (go : Table → Read) → ((u : Table) → Room past u → Small (go u)) → Small (oneRecord at t x go)
-  unfolding oneRecord objectRecord threadRecord operationRecord withObject withThread withOp numbersOf
-  one-small (rec.Object m) go next =
-      by-test Small (eqb (t .«thread_count») 0)
-      (λ z.
-      let none : t .«thread_count» ≡ 0 = eqb-true (t .«thread_count») 0 z in
-      by-test Small (ltb (t .«object_count») 16)
-      (λ l.
-      next _
-      (record {
-        before = omega (arith, r .before, step-on);
-        inside = λ some. absurd (omega (arith, some, none));
-        objects = omega (arith, ltb-true (t .«object_count») 16 l);
-        threads = r .threads;
-        counts = r .counts;
-      })) (λ l. at-small (answer.TooMany at) small))
-      (λ z. at-small (answer.BadRecord at) small)
-  one-small rec.Thread go next =
-      by-test Small (ltb (t .«thread_count») 6)
-      (λ l.
-      next _
-      (record {
-        before = omega (arith, r .before, step-on);
-        inside = λ some. omega (arith, r .before, step-on);
-        objects = r .objects;
-        threads = omega (arith, ltb-true (t .«thread_count») 6 l);
-        counts = r .counts;
-      })) (λ l. at-small (answer.TooMany at) small)
-  one-small (rec.Operation op) go next =
-      by-test Small (eqb (t .«thread_count») 0) (λ z. at-small (answer.BadRecord at) small)
-      (λ z.
-      let some : 0 < t .«thread_count» = positive (t .«thread_count») (eqb-false (t .«thread_count») 0 z) in
-      let last : ℕ = t .«thread_count» - 1 in
-      let there : last < length (t .counts) = omega (arith, some, r .threads, r .counts) in
-      let one : getD (set (t .counts) last (lastCount t + 1)) last 0 ≡ lastCount t + 1 = getD-set-same (t .counts) last (lastCount t + 1) 0 there in
-      by-test Small (ltb (lastCount t) 32)
-      (λ l.
-      by-test Small (objectsFine (t .objects) op)
-      (λ f.
-      next _
-      (record {
-        before = omega (arith, r .inside some, step-on, ltb-true (lastCount t) 32 l);
-        inside = λ q. omega (arith, r .inside some, step-on, one);
-        objects = r .objects;
-        threads = r .threads;
-        counts = length-set (t .counts) last (lastCount t + 1) ∙ r .counts;
-      })) (λ f. at-small (answer.BadObject at) small))
-      (λ l. at-small (answer.TooMany at) small))
-  one-small rec.Bad go next = at-small (answer.BadRecord at) small
+thread-room : (at past : ℕ) (t : Table) → past ≤ at + 3 → t .«thread_count» < 6 → Room at t → Room past (withThread t)
+unfolding withThread
+thread-room at past t on l r =
+    record { before = omega (arith, r .before, on); inside = λ some. omega (arith, r .before, on); objects = r .objects; threads = omega (arith, l); counts = r .counts }
 
-  end-small : Small (atEnd at t)
-  unfolding atEnd numbersOf
-  end-small = by-test Small (eqb (t .«thread_count») 0) (λ z. at-small (answer.TooMany at) small) (λ z. accepted-small t)
+operation-room : (at past : ℕ) (t : Table) (op : Op) → past ≤ at + 3 → 0 < t .«thread_count» → lastCount t < 32 → Room at t → Room past (withOp t op)
+unfolding withOp
+operation-room at past t op on some l r =
+    let last : ℕ = t .«thread_count» - 1 in
+    let there : last < length (t .counts) = omega (arith, some, r .threads, r .counts) in
+    let one : getD (set (t .counts) last (lastCount t + 1)) last 0 ≡ lastCount t + 1 = getD-set-same (t .counts) last (lastCount t + 1) 0 there in
+    record {
+      before = omega (arith, r .inside some, on, l);
+      inside = λ q. omega (arith, r .inside some, on, one);
+      objects = r .objects;
+      threads = r .threads;
+      counts = length-set (t .counts) last (lastCount t + 1) ∙ r .counts;
+    }
 
-from-small : (n at : ℕ) (bs : List ℕ) (t : Table) → Room at t → Small (readFrom n at bs t)
-unfolding readFrom
-from-small zero at bs t r = end-small at at t r (omega arith)
-from-small (suc n) at [] t r = end-small at at t r (omega arith)
-from-small (suc n) at (k ∷ bs) t r =
-    one-small at (at + 1 + bodyLength k) t r (omega (arith, body-small k)) (recordOf k bs) _ (λ u v. from-small n (at + 1 + bodyLength k) (drop (bodyLength k) bs) u v)
+empty-room : Room 0 emptyTable
+unfolding emptyTable
+empty-room = record { before = omega arith; inside = λ some. absurd (omega (arith, some)); objects = omega arith; threads = omega arith; counts = refl }
 
 pub refused-place : (bs : List ℕ) (a : Answer) → readTable bs ≡ refused a → place a ≤ 642
-unfolding readTable emptyTable
-refused-place bs a e =
-    from-small (length bs) 0 bs emptyTable (record { before = omega arith; inside = λ some. absurd (omega (arith, some)); objects = omega arith; threads = omega arith; counts = refl }) a e
+refused-place bs = read-by Room Small stops-small object-room thread-room operation-room (λ at t some r. accepted-small t) bs empty-room
 
 -- a verdict has no place
 verdict-place : (a : Answer) → numbersOf a .number ≤ 5 → place a ≡ 0
@@ -179,7 +138,7 @@ judge-place bs list buffer = go (readTable bs) refl
     go : (r : Read) → readTable bs ≡ r → place (judgeTable r list buffer .answer) ≤ 1766
     go (refused a) e = omega (arith, refused-place bs a e)
     go (accepted t) e =
-        let h = accepted-within bs t e in
+        let h = read-within bs t e in
         let j = judged-place t (h .0) list 0 (start t) (start-good t (h .0) (h .1)) in
         by-test (λ (g : Given). place (g .answer) ≤ 1766) (leb (sheetLength t) (length buffer))
         (λ l. shown-place t _ buffer (judge-told t 0 (start t) list) (omega (arith, j, start-left t (h .0), h .0 .threads))) (λ l. sheet-small bs t e)
