@@ -1,6 +1,6 @@
 // The store of objects: announcing, dependence, leaks (loom's rt/object.rs). An entry hands out the state of its kind and takes it back.
 ghost use mathlib.Core.Path.{_≡_};
-ghost use Rattle.rules.specs.Object.{newEntry, entryAt, putEntry, announced, anyAccess, setAnyAccess, lastDependentAccess, setLastAccess, leaks};
+ghost use Rattle.rules.specs.Object.{newEntry, noObject, announced, anyAccess, setAnyAccess, lastDependentAccess, setLastAccess, leaks};
 use crate::access;
 use crate::arc;
 use crate::cell;
@@ -15,8 +15,6 @@ use rules::access::Access;
 use rules::object::Action;
 use rules::object::Entry;
 use rules::object::Kind;
-use rules::object::OBJECTS;
-use rules::object::ObjectId;
 use rules::table::Made;
 use rules::thread::Phase;
 use rules::thread::Thread;
@@ -38,29 +36,14 @@ pub fn new_entry(made: Made) -> Entry
     }
 }
 
-// An object by its number; one that there is none of is of no kind.
-pub fn get(objects: [Entry; OBJECTS], id: ObjectId) -> Entry
-    ensures { λ r. ⌜ r ≡ entryAt objects id ⌝ }
+// What is read where no object is.
+pub fn absent() -> Entry
+    ensures { λ r. ⌜ r ≡ newEntry noObject ⌝ }
 {
-    let i = id.0 as usize;
-    if i < OBJECTS {
-        return objects[i];
-    }
     new_entry(Made {
         kind: Kind::Nothing,
         spurious: false,
     })
-}
-
-// The store with one object changed; a number that none has changes nothing.
-pub fn put(mut objects: [Entry; OBJECTS], id: ObjectId, e: Entry) -> [Entry; OBJECTS]
-    ensures { λ r. ⌜ r ≡ putEntry objects id e ⌝ }
-{
-    let i = id.0 as usize;
-    if i < OBJECTS {
-        objects[i] = e;
-    }
-    objects
 }
 
 // The operation is announced; where it cannot go on, the thread is blocked (loom's branch_disable).

@@ -3,7 +3,6 @@ ghost use mathlib.Core.Path.{_≡_};
 ghost use Rattle.rules.specs.Answer.{numbersOf};
 ghost use Rattle.rules.specs.Judge.{judgeOf};
 ghost use Rattle.skeldurn.specs.Word.{wordOf, numbersIn};
-use rules::answer::Answer;
 use rules::answer::Numbers;
 use tables::answer::numbers;
 use turns::judge::judge;

@@ -27,17 +27,24 @@ use rules::table::Table;
 use rules::table::TableRead;
 use rules::table::Taken;
 
-pub fn empty_table() -> Table
+// What is read where no operation is.
+pub fn no_op() -> Op
+    ensures { λ r. ⌜ r ≡ noOp ⌝ }
+{
+    Op {
+        call: Call::Mutex(mutex::Call::AcquireLock),
+        object: ObjectId(0),
+    }
+}
+
+fn empty_table() -> Table
     ensures { λ r. ⌜ r ≡ emptyTable ⌝ }
 {
     let nothing = Made {
         kind: Kind::Nothing,
         spurious: false,
     };
-    let none = Op {
-        call: Call::Mutex(mutex::Call::AcquireLock),
-        object: ObjectId(0),
-    };
+    let none = no_op();
     Table {
         objects: [nothing; OBJECTS],
         object_count: 0,

@@ -25,7 +25,7 @@ use Rattle.rules.specs.Object.{putEntry}
 use Rattle.rules.specs.Table.{noOp, opsOf}
 use Rattle.rules.specs.Turn.{threadIn, entryIn, wants, done, afterTurn, allEnded, anyRunnable, leakCheck, stuck, settled, wait, goOn, turnOf, question, opsLeft}
 use Rattle.rules.specs.Judge.{Verdict, outcomeOf, step, Given, untouched}
-use Rattle.rules.specs.Sheet.{sheetOf}
+use Rattle.rules.specs.Sheet.{flag, sheetOf}
 use Rattle.turns.specs.declared.step.Move.{Move}
 use Rattle.turns.specs.declared.step.Move.the-variants.{Begins, Answers, Goes, Waits}
 use Rattle.turns.specs.declared.step.Deed.{Deed}
@@ -69,10 +69,6 @@ chosen (asked.Thread t) d = Answers t (eqb d 1)
 -- who acts after a turn
 unfoldable pub after : List Thread → Acting
 after ts = elim (allEnded ts) [ true ↦ AllEnded | false ↦ elim (anyRunnable ts) [ true ↦ Nobody | false ↦ Done (Deadlock (stuck 0 ts)) ] ]
-
-abbrev pub flag : Bool → ℕ
-flag true = 1
-flag false = 0
 
 -- what a move comes to by document 01
 unfoldable pub movedBy : Table → Move → World → Decided

@@ -42,6 +42,7 @@ use Rattle.rules.specs.Table.{noOp, opsOf}
 use Rattle.rules.specs.TableLaws.{split, ops-few, ops-next}
 use Rattle.rules.specs.Turn as turn
 use Rattle.rules.specs.Turn.{threadIn, entryIn, withThreads, withTurn, withAsked, wants, done, refused, afterTurn, afterStep, allEnded, anyRunnable, mutexOf, settled, endingOf, spot, advance, operate, goOn, turnOf, question, opsLeft, begin, decideAt, decide, leakCheck}
+use Rattle.rules.specs.Sheet.{flag}
 use Rattle.rules.specs.Judge.{Verdict, outcomeOf, step}
 use Rattle.turns.specs.declared.step.Move.{Move}
 use Rattle.turns.specs.declared.step.Move.the-variants.{Begins, Answers, Goes, Waits}
@@ -51,7 +52,7 @@ use Rattle.turns.specs.declared.step.Acting.the-variants.{Nobody, Moves,
 use Rattle.turns.specs.declared.step.Scene.{Scene}
 use Rattle.turns.specs.declared.step.Moved.{Moved}
 use Rattle.turns.specs.Step.{firstSubject, subject, with, inTurn, goes, advanced, failing, thereafter, operation, begins, free, goesOn, spurious, answers, waits, act}
-use Rattle.turns.specs.Run.{placeAt, deedOf, sceneOf, worldOf, isAllowed, chosen, after, flag, movedBy, decided, moveWeight, weight, Fits, onwards, rest}
+use Rattle.turns.specs.Run.{placeAt, deedOf, sceneOf, worldOf, isAllowed, chosen, after, movedBy, decided, moveWeight, weight, Fits, onwards, rest}
 
 -- the place of an operation that is left, and of none
 module _ (counts : List ℕ) (t : ThreadId) (p : ℕ) where

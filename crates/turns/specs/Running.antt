@@ -86,11 +86,11 @@ module _ (table : Table) (list : List ℕ) (given : World) where
       abbrev fit : x ≡ deedOf table ts (x .moves)
       fit = subst (Fits table ts) e (r .fits)
 
-      abbrev seen : ObjectId → Entry → Scene
-      seen p y = record { entry = y; threads = ts; turn = n; asked = who }
+      abbrev seen : Entry → Scene
+      seen y = record { entry = y; threads = ts; turn = n; asked = who }
 
-      acts : m ≡ act (x .moves) (x .left) (x .op) (seen o (entryAt es (subject ts (x .moves) (x .op))))
-      acts = done ∙ ap (λ (y : Entry). act (x .moves) (x .left) (x .op) (seen o y)) (taken ∙ ap (entryAt es) about)
+      acts : m ≡ act (x .moves) (x .left) (x .op) (seen (entryAt es (subject ts (x .moves) (x .op))))
+      acts = done ∙ ap (λ (y : Entry). act (x .moves) (x .left) (x .op) (seen y)) (taken ∙ ap (entryAt es) about)
 
       pub acted : (fs : List Entry) → fs ≡ putEntry es o (m .scene .entry)
           → Running table list given (m .scene .threads) fs (m .scene .turn) (m .scene .asked) (m .acting) at

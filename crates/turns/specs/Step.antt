@@ -1,4 +1,4 @@
--- A turn in steps: what each does to the threads and to the one object that it is about. `StepLaws` shows that together they are the turn of
+-- A turn in steps: what each does to the threads and to the one object that it is about. `RunLaws` shows that together they are the turn of
 -- document 01.
 use mathlib.Core.Bool.{Bool, true, false}
 use mathlib.Core.List.{List}
@@ -73,14 +73,14 @@ queues s t m = record { acting = Moves (Waits t m); scene = s }
 abbrev pub asking : ThreadId → Scene → Moved
 asking t s = record { acting = Nobody; scene = askedAs s (asked.Thread t) }
 
-abbrev pub place : Scene → ThreadId → ObjectId → Spot
-place s t o = record { thread = t; position = threadAt (s .threads) t .position; object = o }
+abbrev pub spotIn : Scene → ThreadId → ObjectId → Spot
+spotIn s t o = record { thread = t; position = threadAt (s .threads) t .position; object = o }
 
 unfoldable pub failing : Ending → ThreadId → ObjectId → Scene → Moved → Moved
 failing ending.Fine t o before next = next
-failing ending.Misuse t o before next = fails before (answer.Misuse (place before t o))
-failing ending.NoRoom t o before next = fails before (answer.NoRoom (place before t o))
-failing (ending.Race other) t o before next = fails before (answer.Race (place before t o) other)
+failing ending.Misuse t o before next = fails before (answer.Misuse (spotIn before t o))
+failing ending.NoRoom t o before next = fails before (answer.NoRoom (spotIn before t o))
+failing (ending.Race other) t o before next = fails before (answer.Race (spotIn before t o) other)
 
 abbrev pub advanced : Scene → ThreadId → ℕ → Moved
 advanced s t p = goes (with s (s .entry) (advance t (s .threads))) t (risen 255 p)

@@ -11,12 +11,11 @@ ghost use Rattle.turns.specs.Run.{showing};
 use crate::run::End;
 use crate::run::run;
 use clocks::THREADS;
-use objects::object::new_entry;
+use objects::object;
 use objects::thread::absent;
 use objects::thread::with_state;
 use rules::answer::Answer;
 use rules::object::Entry;
-use rules::object::Kind;
 use rules::object::OBJECTS;
 use rules::table::Made;
 use rules::table::Table;
@@ -55,14 +54,11 @@ fn start_threads(n: u8) -> [Thread; THREADS]
 fn start_objects(objects: [Made; OBJECTS]) -> [Entry; OBJECTS]
     ensures { λ r. ⌜ r ≡ map newEntry objects ⌝ }
 {
-    let nothing = new_entry(Made {
-        kind: Kind::Nothing,
-        spurious: false,
-    });
+    let nothing = object::absent();
     let mut out = [nothing; OBJECTS];
     for k in 0..OBJECTS {
         let made = objects[k];
-        out[k] = new_entry(made);
+        out[k] = object::new_entry(made);
     }
     out
 }

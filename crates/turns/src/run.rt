@@ -2,8 +2,6 @@
 ghost use mathlib.Core.Path.{_≡_};
 ghost use Rattle.lists.specs.Judge.{judge};
 ghost use Rattle.rules.specs.Judge.{step};
-ghost use Rattle.rules.specs.Object.{newEntry, noObject};
-ghost use Rattle.rules.specs.Table.{noOp};
 ghost use Rattle.turns.specs.Run.{placeAt, placeOf, isAllowed, chosen, after, endAt, ranOf};
 use crate::after::all_ended;
 use crate::after::any_runnable;
@@ -17,22 +15,16 @@ use crate::step::act;
 use crate::step::subject;
 use clocks::THREADS;
 use clocks::ThreadId;
-use objects::object::new_entry;
+use objects::object;
 use objects::thread::get;
 use objects::thread::is_runnable;
 use rules::answer::Answer;
-use rules::mutex;
-use rules::object::Entry;
-use rules::object::Kind;
 use rules::object::OBJECTS;
-use rules::object::ObjectId;
-use rules::table::Call;
-use rules::table::Made;
-use rules::table::Op;
 use rules::table::Table;
 use rules::thread::Thread;
 use rules::world::Asked;
 use rules::world::World;
+use tables::table::no_op;
 
 // How a list ends.
 pub enum End {
@@ -72,24 +64,6 @@ fn place_of(counts: [u8; THREADS], threads: [Thread; THREADS], m: Move) -> usize
     }
 }
 
-fn no_op() -> Op
-    ensures { λ r. ⌜ r ≡ noOp ⌝ }
-{
-    Op {
-        call: Call::Mutex(mutex::Call::AcquireLock),
-        object: ObjectId(0),
-    }
-}
-
-fn no_entry() -> Entry
-    ensures { λ r. ⌜ r ≡ newEntry noObject ⌝ }
-{
-    new_entry(Made {
-        kind: Kind::Nothing,
-        spurious: false,
-    })
-}
-
 // Who acts after a turn.
 fn after(threads: [Thread; THREADS]) -> Acting
     ensures { λ r. ⌜ r ≡ after threads ⌝ }
@@ -104,7 +78,7 @@ fn after(threads: [Thread; THREADS]) -> Acting
 }
 
 // A decision names a runnable thread, or answers the question with 0 or 1.
-pub fn is_allowed(asked: Asked, threads: [Thread; THREADS], d: u8) -> bool
+fn is_allowed(asked: Asked, threads: [Thread; THREADS], d: u8) -> bool
     ensures { λ r. ⌜ r ≡ isAllowed asked threads d ⌝ }
 {
     match asked {
@@ -196,7 +170,11 @@ pub fn run(table: Table, world: World, list: &[u8]) -> Ran
                 let moves = x.moves;
                 let op = x.op;
                 let o = subject(threads, moves, op).0 as usize;
-                let e = if o < OBJECTS { objects[o] } else { no_entry() };
+                let e = if o < OBJECTS {
+                    objects[o]
+                } else {
+                    object::absent()
+                };
                 let scene = Scene {
                     entry: e,
                     threads: threads,

@@ -20,14 +20,14 @@ Inv-loop objects out₀ k₀ out k = (k ≤ 16) × (length objects ≡ 16) × (l
 abbrev μ-loop : tie.MeasureT-loop
 μ-loop objects out₀ k₀ out k = 16 - k
 
-new-entry-requires : tie.Need-new-entry-requires Inv-loop μ-loop
-new-entry-requires c κs = search needs
+absent-requires : tie.Need-absent-requires Inv-loop μ-loop
+absent-requires c κs = search needs
 
 loop-holds : tie.Need-loop-holds Inv-loop μ-loop
 loop-holds c =
     let ms : List Made = c .before .args .t1 in
     let n : length ms ≡ 16 = search needs in
-    (omega arith, n, length-replicate 16 (c .new-entry .result), refl)
+    (omega arith, n, length-replicate 16 (c .absent .result), refl)
 
 mul-made : tie.Need-mul-made Inv-loop μ-loop
 mul-made c = search needs
@@ -35,8 +35,8 @@ mul-made c = search needs
 array-copy-out-made : tie.Need-array-copy-out-made Inv-loop μ-loop
 array-copy-out-made c = search needs
 
-new-entry-requires-2 : tie.Need-new-entry-requires-2 Inv-loop μ-loop
-new-entry-requires-2 c κs = search needs
+new-entry-requires : tie.Need-new-entry-requires Inv-loop μ-loop
+new-entry-requires c κs = search needs
 
 mul-out : tie.Need-mul-out Inv-loop μ-loop
 mul-out c = search needs
@@ -54,15 +54,15 @@ loop-again : tie.Need-loop-again Inv-loop μ-loop
 loop-again c =
     let l = c .before .before .before .loop in
     let ms : List Made = c .before .before .before .before .before .args .t1 in
-    let es : List Entry = replicate 16 (c .before .before .before .before .new-entry .result) in
+    let es : List Entry = replicate 16 (c .before .before .before .before .absent .result) in
     let within : l .k < length ms = omega (arith, l .inv .1, c .before .before .loop-test .taken) in
-    (omega (arith, c .before .before .loop-test .taken), l .inv .1, l .inv .2, turned (madeAt ms) (l .k) es (newEntry noObject) _ _ (omega (arith, l .inv .2, c .before .before .loop-test .taken)) (l .inv .3) (c .new-entry2 .ensures ∙ ap newEntry (getD-within ms (l .k) _ noObject within)))
+    (omega (arith, c .before .before .loop-test .taken), l .inv .1, l .inv .2, turned (madeAt ms) (l .k) es (newEntry noObject) _ _ (omega (arith, l .inv .2, c .before .before .loop-test .taken)) (l .inv .3) (c .new-entry .ensures ∙ ap newEntry (getD-within ms (l .k) _ noObject within)))
 
 returns : tie.Need-returns Inv-loop μ-loop
 returns c =
     let l = c .before .loop in
     let ms : List Made = c .before .before .before .args .t1 in
-    let es : List Entry = replicate 16 (c .before .before .new-entry .result) in
+    let es : List Entry = replicate 16 (c .before .before .absent .result) in
     ended (madeAt ms) (l .k) es _ (omega (arith, l .inv .0, l .inv .2, c .loop-test .left)) (l .inv .3) ∙ made-all ms es (omega (arith, l .inv .1, l .inv .2))
 
 pub start-objects-spec : {M : Type 1} → statement M
@@ -71,11 +71,11 @@ start-objects-spec =
     (tie.spec
     Inv-loop
     μ-loop
-    new-entry-requires
+    absent-requires
     loop-holds
     mul-made
     array-copy-out-made
-    new-entry-requires-2
+    new-entry-requires
     mul-out
     array-set-from-out
     add-k

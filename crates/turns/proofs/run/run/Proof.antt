@@ -145,8 +145,8 @@ mul-e c = search needs
 array-copy-out-e : tie.Need-array-copy-out-e Inv-loop μ-loop
 array-copy-out-e c = search needs
 
-no-entry-requires : tie.Need-no-entry-requires Inv-loop μ-loop
-no-entry-requires c κs = search needs
+absent-requires : tie.Need-absent-requires Inv-loop μ-loop
+absent-requires c κs = search needs
 
 act-requires : tie.Need-act-requires Inv-loop μ-loop
 act-requires c κs = search needs
@@ -320,7 +320,7 @@ run-spec =
     cast-o
     mul-e
     array-copy-out-e
-    no-entry-requires
+    absent-requires
     act-requires
     mul-objects
     array-set-from-objects
