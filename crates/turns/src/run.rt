@@ -2,6 +2,7 @@
 ghost use mathlib.Core.Path.{_≡_};
 ghost use Rattle.lists.specs.Judge.{judge};
 ghost use Rattle.rules.specs.Judge.{step};
+ghost use Rattle.turns.specs.declared.step.Acting.the-variants.{Does};
 ghost use Rattle.turns.specs.Run.{placeAt, placeOf, isAllowed, chosen, after, endAt, ranOf};
 use crate::after::all_ended;
 use crate::after::any_runnable;
@@ -19,7 +20,9 @@ use objects::object;
 use objects::thread::get;
 use objects::thread::is_runnable;
 use rules::answer::Answer;
+use rules::object::Entry;
 use rules::object::OBJECTS;
+use rules::table::Op;
 use rules::table::Table;
 use rules::thread::Thread;
 use rules::world::Asked;
@@ -100,19 +103,44 @@ fn chosen(asked: Asked, d: u8) -> Move
     }
 }
 
+fn does(m: Move, left: bool, op: Op) -> Acting
+    ensures { λ r. ⌜ r ≡ Does (record { moves = m; left = left; op = op }) ⌝ }
+{
+    Acting::Does(Deed {
+        moves: m,
+        left: left,
+        op: op,
+    })
+}
+
+fn world_of(threads: [Thread; THREADS], objects: [Entry; OBJECTS], turn: u16, asked: Asked) -> World
+    ensures { λ r. ⌜ r ≡ record { threads = threads; objects = objects; turn = turn; asked = asked } ⌝ }
+{
+    World {
+        threads: threads,
+        objects: objects,
+        turn: turn,
+        asked: asked,
+    }
+}
+
+fn came_to(end: End, world: World) -> Ran
+    ensures { λ r. ⌜ r ≡ record { end = end; world = world } ⌝ }
+{
+    Ran {
+        end: end,
+        world: world,
+    }
+}
+
+// A verdict, if the list ends there.
 fn verdict(a: Answer, at: usize, n: usize, given: World, reached: World) -> Ran
     ensures { λ r. ⌜ r ≡ endAt a at n given reached ⌝ }
 {
     if at < n {
-        return Ran {
-            end: End::Surplus(at),
-            world: given,
-        };
+        return came_to(End::Surplus(at), given);
     }
-    Ran {
-        end: End::Verdict(a),
-        world: reached,
-    }
+    came_to(End::Verdict(a), reached)
 }
 
 pub fn run(table: Table, world: World, list: &[u8]) -> Ran
@@ -129,22 +157,11 @@ pub fn run(table: Table, world: World, list: &[u8]) -> Ran
         match acting {
             Acting::Nobody => {
                 if at >= list.len() {
-                    return Ran {
-                        end: End::Unfinished,
-                        world: World {
-                            threads: threads,
-                            objects: objects,
-                            turn: turn,
-                            asked: asked,
-                        },
-                    };
+                    return came_to(End::Unfinished, world_of(threads, objects, turn, asked));
                 }
                 let d = list[at];
                 if !is_allowed(asked, threads, d) {
-                    return Ran {
-                        end: End::NotAllowed(at),
-                        world: world,
-                    };
+                    return came_to(End::NotAllowed(at), world);
                 }
                 acting = Acting::Moves(chosen(asked, d));
                 at += 1;
@@ -152,19 +169,12 @@ pub fn run(table: Table, world: World, list: &[u8]) -> Ran
             Acting::Moves(m) => {
                 let counts = table.counts;
                 let k = place_of(counts, threads, m);
-                acting = if k < 192 {
-                    Acting::Does(Deed {
-                        moves: m,
-                        left: true,
-                        op: ops[k],
-                    })
+                if k < 192 {
+                    let op = ops[k];
+                    acting = does(m, true, op);
                 } else {
-                    Acting::Does(Deed {
-                        moves: m,
-                        left: false,
-                        op: no_op(),
-                    })
-                };
+                    acting = does(m, false, no_op());
+                }
             }
             Acting::Does(x) => {
                 let moves = x.moves;
@@ -199,18 +209,8 @@ pub fn run(table: Table, world: World, list: &[u8]) -> Ran
                 acting = Acting::Done(leak_check(objects));
             }
             Acting::Done(a) => {
-                return verdict(
-                    a,
-                    at,
-                    list.len(),
-                    world,
-                    World {
-                        threads: threads,
-                        objects: objects,
-                        turn: turn,
-                        asked: asked,
-                    },
-                );
+                let reached = world_of(threads, objects, turn, asked);
+                return verdict(a, at, list.len(), world, reached);
             }
         }
     }
