@@ -1,11 +1,12 @@
-//! The oracle against the plain interpreter: every answer and every byte.
+//! The oracle against the plain interpreter and the proved archive: every
+//! answer and every byte.
 
 use std::fmt;
 
 use crate::answer::{Answer, Machine, Step};
-use crate::archive;
+use crate::archive::{Archive, Call, Mistake};
 use crate::families::families;
-use crate::judge::Oracle;
+use crate::judge::{self, handed_over, Oracle};
 use crate::plain::{self, Plain, Slip, World};
 use crate::random;
 use crate::rt::Run;
@@ -21,6 +22,8 @@ pub struct Counts {
     states: u64,
     judged: u64,
     walked: u64,
+    /// Calls from one run to the following one.
+    steps: u64,
     verdicts: [u64; 6],
     /// Random runs of 100 decisions and more, and the longest.
     long: u64,
@@ -29,10 +32,11 @@ pub struct Counts {
 
 impl fmt::Display for Counts {
     fn fmt(&self, out: &mut fmt::Formatter<'_>) -> fmt::Result {
-        let Counts { tables, refused, runs, states, judged, walked, verdicts, .. } = self;
+        let Counts { tables, refused, runs, states, judged, walked, steps, verdicts, .. } = self;
         write!(out, "tables {tables}, refused tables {refused}, complete runs {runs} ")?;
         write!(out, "(verdicts 0 to 5: {verdicts:?}), states {states}, ")?;
-        write!(out, "judge calls {judged}, first and next calls {walked}")?;
+        write!(out, "judge calls {judged}, first and next calls {walked}, ")?;
+        write!(out, "steps through all runs {steps}")?;
         if self.longest == 0 {
             return Ok(());
         }
@@ -51,13 +55,6 @@ pub struct Difference {
     archive: String,
 }
 
-#[derive(Clone, Copy, PartialEq, Debug)]
-enum Call {
-    Judge,
-    First,
-    Next,
-}
-
 impl fmt::Display for Difference {
     fn fmt(&self, out: &mut fmt::Formatter<'_>) -> fmt::Result {
         let Difference { call, table, list, length, oracle, plain, archive } = self;
@@ -70,45 +67,98 @@ impl fmt::Display for Difference {
 
 type Found = Result<(), Box<Difference>>;
 
+/// An answer, and what is written.
+type Said = (Answer, Vec<u8>);
+
 pub struct Comparison {
     oracle: Oracle,
     plain: Plain,
+    pub archive: Archive,
     pub counts: Counts,
     of_oracle: Vec<u8>,
 }
 
+/// A table of which every run is looked at, and its complete lists in order.
+struct Tree<'a> {
+    table: &'a [u8],
+    /// The sheet's length.
+    length: usize,
+    runs: Vec<Vec<u8>>,
+}
+
 impl Comparison {
+    /// A slip is a mistake in the plain interpreter.
     pub fn new(slip: Slip) -> Comparison {
         Comparison {
             oracle: Oracle::new(),
             plain: Plain { slip },
+            archive: Archive::default(),
             counts: Counts::default(),
             of_oracle: Vec::new(),
         }
     }
 
+    /// A mistake in what the archive is expected to say.
+    pub fn expecting(call: Call, mistake: Mistake) -> Comparison {
+        let mut comparison = Comparison::new(Slip::None);
+        comparison.archive.mistake = Some((call, mistake));
+        comparison
+    }
+
     // ===== whole calls =====
 
-    fn call(&mut self, call: Call, table: &[u8], list: &[u8], length: usize) -> Found {
-        let (oracle, plain) = match call {
-            Call::Judge => {
-                self.counts.judged += 1;
-                (self.oracle.judge(table, list, length), self.plain.judge(table, list, length))
-            }
-            Call::First => {
-                self.counts.walked += 1;
-                (self.oracle.first(table, length), self.plain.first(table, length))
-            }
-            Call::Next => {
-                self.counts.walked += 1;
-                (self.oracle.next(table, list, length), self.plain.next(table, list, length))
-            }
+    fn judge(&mut self, table: &[u8], list: &[u8], length: usize) -> Found {
+        self.counts.judged += 1;
+        let oracle = self.oracle.judge(table, list, length);
+        let plain = self.plain.judge(table, list, length);
+        self.same(Call::Judge, table, list, length, oracle, plain)
+    }
+
+    /// First or next, with each kind of room: exact, one short, none, more.
+    fn walk(&mut self, call: Call, table: &[u8], list: &[u8]) -> Found {
+        let found = match call {
+            Call::First => self.oracle.first_list(table),
+            _ => self.oracle.next_list(table, list),
         };
-        let archive = match call {
-            Call::Judge => archive::judge(table, list, length, oracle.1.len()),
-            Call::First | Call::Next => None,
+        let length = found.as_ref().map_or(0, Vec::len);
+        let mut rooms = vec![length, length.saturating_sub(1), 0, length + 9];
+        rooms.dedup();
+        for room in rooms {
+            self.counts.walked += 1;
+            self.found_in_room(call, table, list, room, &found)?;
+        }
+        Ok(())
+    }
+
+    /// What first or next finds, handed over in a buffer with this room.
+    fn found_in_room(
+        &mut self,
+        call: Call,
+        table: &[u8],
+        list: &[u8],
+        room: usize,
+        found: &judge::Found,
+    ) -> Found {
+        let plain = match call {
+            Call::First => self.plain.first(table, room),
+            _ => self.plain.next(table, list, room),
         };
-        if oracle == plain && archive.as_ref().is_none_or(|archive| *archive == oracle) {
+        self.same(call, table, list, room, handed_over(found, room), plain)
+    }
+
+    /// The oracle's side of a call against both others.
+    fn same(
+        &mut self,
+        call: Call,
+        table: &[u8],
+        list: &[u8],
+        length: usize,
+        oracle: Said,
+        plain: Said,
+    ) -> Found {
+        let expected = (oracle.0, &oracle.1[..]);
+        let archive = self.archive.differs(call, (table, list), length, expected);
+        if oracle == plain && archive.is_none() {
             return Ok(());
         }
         Err(Box::new(Difference {
@@ -116,9 +166,9 @@ impl Comparison {
             table: table.to_vec(),
             list: list.to_vec(),
             length,
-            oracle: said(&oracle),
-            plain: said(&plain),
-            archive: archive.as_ref().map_or("not built in".to_string(), said),
+            oracle: said(oracle.0, &oracle.1),
+            plain: said(plain.0, &plain.1),
+            archive: archive.unwrap_or("no difference".into()),
         }))
     }
 
@@ -166,15 +216,48 @@ impl Comparison {
         }
     }
 
-    /// Every run of a table, each at every front part. `Err` is the list at
-    /// which the two part.
+    /// The archive's judge where the two have just been found to agree: at a
+    /// front part, or at a list's end.
+    fn front(&mut self, table: &[u8], list: &[u8], step: Step) -> Found {
+        let answer = match step {
+            Step::Verdict(answer) => answer,
+            Step::Wants | Step::Refused => Answer::of(6),
+        };
+        let (length, expected) = (self.of_oracle.len(), (answer, &self.of_oracle[..]));
+        match self.archive.differs(Call::Front, (table, list), length, expected) {
+            None => Ok(()),
+            Some(archive) => Err(Box::new(Difference {
+                call: Call::Front,
+                table: table.to_vec(),
+                list: list.to_vec(),
+                length,
+                oracle: said(answer, &self.of_oracle),
+                plain: "no difference".into(),
+                archive,
+            })),
+        }
+    }
+
+    /// The two parted at the end of this list.
+    fn parted(&mut self, table: &[u8], list: &[u8], length: usize) -> Box<Difference> {
+        match self.judge(table, list, length) {
+            Err(difference) => difference,
+            Ok(()) => {
+                let (table, list) = (hex(table), hex(list));
+                eprintln!("parted only from state to state: table {table} list {list}");
+                std::process::exit(3);
+            }
+        }
+    }
+
+    /// Every run of a table, each at every front part.
     fn explore(
         &mut self,
         run: &mut Run,
         world: &World,
         front: &mut Vec<u8>,
-        seen: &mut Seen,
-    ) -> Result<(), Vec<u8>> {
+        tree: &mut Tree,
+    ) -> Found {
         for (nth, decision) in members(world.allowed_mask()).enumerate() {
             if nth > 0 {
                 run.restart();
@@ -184,10 +267,13 @@ impl Comparison {
             }
             front.push(decision);
             let mut next = world.clone();
-            match self.same_step(run, &mut next, decision) {
-                None => return Err(front.clone()),
-                Some(Step::Verdict(_)) => seen.complete(front),
-                Some(_) => self.explore(run, &next, front, seen)?,
+            let Some(step) = self.same_step(run, &mut next, decision) else {
+                return Err(self.parted(tree.table, front, tree.length));
+            };
+            self.front(tree.table, front, step)?;
+            match step {
+                Step::Verdict(_) => tree.runs.push(front.clone()),
+                Step::Wants | Step::Refused => self.explore(run, &next, front, tree)?,
             }
             front.pop();
         }
@@ -198,44 +284,61 @@ impl Comparison {
         self.counts.tables += 1;
         let (read, world) = match (Table::read(table), plain::read(table, self.plain.slip)) {
             (Ok(read), Ok(world)) => (read, world),
-            _ => return self.call(Call::Judge, table, &[], 4000),
+            _ => return self.judge(table, &[], 4000),
         };
-        let length = read.sheet_length();
+        let mut tree = Tree { table, length: read.sheet_length(), runs: Vec::new() };
         runs.load(read);
-        let mut seen = Seen::default();
-        let mut start = world.clone();
-        let explored = if self.same_state(runs, &mut start) {
-            self.explore(runs, &world, &mut Vec::new(), &mut seen)
-        } else {
-            Err(Vec::new())
-        };
-        if let Err(list) = explored {
-            self.call(Call::Judge, table, &list, length)?;
-            panic_unexplained(table, &list);
+        if !self.same_state(runs, &mut world.clone()) {
+            return Err(self.parted(table, &[], tree.length));
         }
-        self.some_calls(table, length, &seen)
+        self.front(table, &[], Step::Wants)?;
+        self.explore(runs, &world, &mut Vec::new(), &mut tree)?;
+        self.step_through(&tree)?;
+        self.some_calls(&tree)
     }
 
-    /// Whole calls on the lists of a table that were kept.
-    fn some_calls(&mut self, table: &[u8], length: usize, seen: &Seen) -> Found {
-        self.call(Call::First, table, &[], 600)?;
-        for list in &seen.kept {
-            self.call(Call::Judge, table, list, length)?;
-            self.call(Call::Judge, table, &list[..list.len() - 1], length)?;
-            self.call(Call::Judge, table, &[&list[..], &[0]].concat(), length)?;
-            self.call(Call::Judge, table, list, length - 1)?;
-            self.call(Call::Next, table, list, 600)?;
-            self.call(Call::Next, table, &list[..list.len() - 1], 600)?;
-            self.call(Call::Next, table, list, list.len() - 1)?;
+    /// First and next give the runs that the search met: each once, in rising
+    /// order, then 7. Every second list just fits.
+    fn step_through(&mut self, tree: &Tree) -> Found {
+        assert!(tree.runs.is_sorted_by(|one, other| one < other), "the search goes upwards");
+        for (number, list) in tree.runs.iter().enumerate() {
+            self.counts.steps += 1;
+            let room = if number % 2 == 0 { list.len() } else { 600 };
+            let found = Ok(list.clone());
+            match number.checked_sub(1) {
+                None => self.found_in_room(Call::First, tree.table, &[], room, &found)?,
+                Some(before) => {
+                    let before = &tree.runs[before];
+                    self.found_in_room(Call::Step, tree.table, before, room, &found)?;
+                }
+            }
         }
-        for (list, after) in &seen.pairs {
-            let (answer, found) = self.oracle.next(table, list, after.len());
-            assert_eq!((answer.number, &found), (8, after), "next is the next run");
+        self.counts.steps += 1;
+        let last = tree.runs.last().expect("every table has a run");
+        self.found_in_room(Call::Step, tree.table, last, 600, &Err(Answer::of(7)))
+    }
+
+    /// Whole calls on some lists of a table: the first, the second, and then
+    /// ever fewer.
+    fn some_calls(&mut self, tree: &Tree) -> Found {
+        let Tree { table, length, runs } = tree;
+        self.walk(Call::First, table, &[])?;
+        for list in runs.iter().enumerate().filter(|(number, _)| (number + 1).is_power_of_two()) {
+            let (_, list) = list;
+            let (cut, surplus) = (&list[..list.len() - 1], [&list[..], &[0]].concat());
+            self.judge(table, list, *length)?;
+            self.judge(table, cut, *length)?;
+            self.judge(table, &surplus, *length)?;
+            self.judge(table, list, length - 1)?;
+            self.judge(table, list, length + 9)?;
+            self.walk(Call::Next, table, list)?;
+            self.walk(Call::Next, table, cut)?;
+            self.walk(Call::Next, table, &surplus)?;
         }
         Ok(())
     }
 
-    // ===== the two comparisons =====
+    // ===== the comparisons =====
 
     /// All small tables of some families, up to `most` operations in all.
     pub fn small(&mut self, most: usize, name: &str) -> Found {
@@ -264,54 +367,58 @@ impl Comparison {
         self.counts.tables += 1;
         let (Ok(read), Ok(world)) = (Table::read(&table), plain::read(&table, self.plain.slip))
         else {
-            return self.call(Call::Judge, &table, &[], 4000);
+            return self.judge(&table, &[], 4000);
         };
         let needed = read.sheet_length();
         runs.load(read);
         let list = random::list(chance, &world);
-        self.along(&table, &list, runs, world, needed)?;
+        self.along(&table, &list, runs, world)?;
+        // The depth-first first and next replay each front part: short lists only.
+        let short = list.len() <= 60;
         for list in random::lists_around(chance, &list) {
             let length = chance.pick(&[needed, needed, needed, needed + 1, 1766, needed - 1, 0]);
-            self.call(Call::Judge, &table, &list, length)?;
-            // The depth-first next replays each front part: short lists only.
-            if list.len() <= 60 {
-                let room = chance.pick(&[list.len(), 600, 600, list.len() / 2]);
-                self.call(Call::Next, &table, &list, room)?;
+            self.judge(&table, &list, length)?;
+            if short {
+                self.walk(Call::Next, &table, &list)?;
             }
         }
-        if list.len() <= 60 {
-            let room = chance.pick(&[list.len(), 600, 600, 0]);
-            self.call(Call::First, &table, &[], room)?;
+        if short {
+            self.walk(Call::First, &table, &[])?;
         }
         for _ in 0..3 {
             let damaged = random::damaged_table(chance, &table);
-            self.counts.refused += Table::read(&damaged).is_err() as u64;
             let length = chance.pick(&[1766, 1766, 0]);
-            self.call(Call::Judge, &damaged, &list, length)?;
+            self.judge(&damaged, &list, length)?;
+            if Table::read(&damaged).is_err() {
+                self.counts.refused += 1;
+                self.walk(Call::First, &damaged, &[])?;
+                self.walk(Call::Next, &damaged, &list)?;
+            }
         }
         Ok(())
     }
 
-    /// The tables at the limits: a few runs of each, the smallest among them.
+    /// The tables at the limits: a few runs of each, the smallest and the
+    /// largest among them.
     pub fn limits(&mut self) -> Found {
         let mut runs = Run::new();
         for (about, table) in random::limits() {
             self.counts.tables += 1;
             let world = plain::read(&table, self.plain.slip).expect("a good table");
-            let (_, first) = self.oracle.first(&table, 600);
+            let first = self.oracle.first_list(&table).expect("a good table");
             println!("{about}: table {} bytes, first list {}", table.len(), first.len());
-            self.call(Call::First, &table, &[], 600)?;
-            self.call(Call::Next, &table, &first, 600)?;
+            self.walk(Call::First, &table, &[])?;
             let mut chance = Chance::new(3);
-            let mut lists = vec![first];
+            let mut lists = vec![first, random::largest_list(&world)];
             lists.extend((0..20).map(|_| random::list(&mut chance, &world)));
             for list in lists {
                 let needed = world.sheet_bytes().len();
                 runs.load(Table::read(&table).expect("a good table"));
-                self.along(&table, &list, &mut runs, world.clone(), needed)?;
+                self.along(&table, &list, &mut runs, world.clone())?;
                 for around in random::lists_around(&mut chance, &list) {
-                    self.call(Call::Judge, &table, &around, needed)?;
-                    self.call(Call::Judge, &table, &around, needed - 1)?;
+                    self.judge(&table, &around, needed)?;
+                    self.judge(&table, &around, needed - 1)?;
+                    self.walk(Call::Next, &table, &around)?;
                 }
             }
         }
@@ -319,21 +426,19 @@ impl Comparison {
     }
 
     /// One list, state by state.
-    fn along(
-        &mut self,
-        table: &[u8],
-        list: &[u8],
-        run: &mut Run,
-        mut world: World,
-        needed: usize,
-    ) -> Found {
+    fn along(&mut self, table: &[u8], list: &[u8], run: &mut Run, mut world: World) -> Found {
         self.counts.long += (list.len() >= 100) as u64;
         self.counts.longest = self.counts.longest.max(list.len());
+        let length = world.sheet_bytes().len();
+        if !self.same_state(run, &mut world) {
+            return Err(self.parted(table, &[], length));
+        }
+        self.front(table, &[], Step::Wants)?;
         for (at, decision) in list.iter().enumerate() {
-            if self.same_step(run, &mut world, *decision).is_none() {
-                self.call(Call::Judge, table, &list[..=at], needed)?;
-                panic_unexplained(table, list);
-            }
+            let Some(step) = self.same_step(run, &mut world, *decision) else {
+                return Err(self.parted(table, &list[..=at], length));
+            };
+            self.front(table, &list[..=at], step)?;
         }
         Ok(())
     }
@@ -350,46 +455,35 @@ impl Comparison {
     }
 
     fn smaller(&mut self, than: &Difference) -> Option<Box<Difference>> {
-        let Difference { call, table, list, length, .. } = than;
+        let Difference { table, list, .. } = than;
         for cut in [40, 12, 4, 3, 2, 1] {
             for at in 0..(table.len() + 1).saturating_sub(cut) {
                 let shorter = [&table[..at], &table[at + cut..]].concat();
-                if let Err(found) = self.call(*call, &shorter, list, *length) {
+                if let Err(found) = self.again(than, &shorter, list) {
                     return Some(found);
                 }
             }
             for at in 0..(list.len() + 1).saturating_sub(cut) {
                 let shorter = [&list[..at], &list[at + cut..]].concat();
-                if let Err(found) = self.call(*call, table, &shorter, *length) {
+                if let Err(found) = self.again(than, table, &shorter) {
                     return Some(found);
                 }
             }
         }
         None
     }
-}
 
-/// Some of a table's complete lists, for whole calls.
-#[derive(Default)]
-struct Seen {
-    count: usize,
-    last: Vec<u8>,
-    kept: Vec<Vec<u8>>,
-    pairs: Vec<(Vec<u8>, Vec<u8>)>,
-}
-
-impl Seen {
-    fn complete(&mut self, list: &[u8]) {
-        self.count += 1;
-        // The first, the second, and then ever fewer.
-        if self.count.is_power_of_two() {
-            self.kept.push(list.to_vec());
-            if self.count > 1 {
-                self.pairs.push((std::mem::take(&mut self.last), list.to_vec()));
+    /// The call of a disagreement, with another input.
+    fn again(&mut self, than: &Difference, table: &[u8], list: &[u8]) -> Found {
+        match than.call {
+            Call::Judge => self.judge(table, list, than.length),
+            Call::Front => {
+                let length = Table::read(table).map_or(0, |table| table.sheet_length());
+                self.judge(table, list, length)
             }
+            Call::First => self.walk(Call::First, table, &[]),
+            Call::Next | Call::Step => self.walk(Call::Next, table, list),
         }
-        self.last.clear();
-        self.last.extend(list);
     }
 }
 
@@ -397,12 +491,6 @@ fn members(mask: u8) -> impl Iterator<Item = u8> {
     (0..8).filter(move |place| mask >> place & 1 == 1)
 }
 
-fn said((answer, bytes): &(Answer, Vec<u8>)) -> String {
+fn said(answer: Answer, bytes: &[u8]) -> String {
     format!("{} | {}", answer.text(), hex(bytes))
-}
-
-/// The two parted in a walk from state to state, and agree in a whole call.
-fn panic_unexplained(table: &[u8], list: &[u8]) -> ! {
-    eprintln!("parted only from state to state: table {} list {}", hex(table), hex(list));
-    std::process::exit(3);
 }

@@ -40,33 +40,42 @@ impl Oracle {
         (answer, sheet)
     }
 
+    /// The list that `first` finds, or the refusal.
+    pub fn first_list(&mut self, table: &[u8]) -> Found {
+        let run = self.open(table)?;
+        smallest(run, &mut Vec::new(), None).ok_or(Answer::of(7))
+    }
+
+    /// The list that `next` finds, or what is answered in its place.
+    pub fn next_list(&mut self, table: &[u8], list: &[u8]) -> Found {
+        let run = self.open(table)?;
+        let answer = follow(run, list);
+        match answer.number {
+            23 | 24 => Err(answer),
+            6 => Err(Answer::of(26)),
+            _ => smallest(run, &mut Vec::new(), Some(list)).ok_or(Answer::of(7)),
+        }
+    }
+
     /// The answer, and the list; none where the buffer stays untouched.
     pub fn first(&mut self, table: &[u8], room: usize) -> (Answer, Vec<u8>) {
-        match self.open(table) {
-            Err(refusal) => (refusal, Vec::new()),
-            Ok(run) => handed_over(smallest(run, &mut Vec::new(), None), room),
-        }
+        handed_over(&self.first_list(table), room)
     }
 
     pub fn next(&mut self, table: &[u8], list: &[u8], room: usize) -> (Answer, Vec<u8>) {
-        let run = match self.open(table) {
-            Err(refusal) => return (refusal, Vec::new()),
-            Ok(run) => run,
-        };
-        let answer = follow(run, list);
-        match answer.number {
-            23 | 24 => (answer, Vec::new()),
-            6 => (Answer::of(26), Vec::new()),
-            _ => handed_over(smallest(run, &mut Vec::new(), Some(list)), room),
-        }
+        handed_over(&self.next_list(table, list), room)
     }
 }
 
-fn handed_over(found: Option<Vec<u8>>, room: usize) -> (Answer, Vec<u8>) {
+/// A list, or the answer where there is none.
+pub type Found = Result<Vec<u8>, Answer>;
+
+/// What is answered and written in a buffer with this room.
+pub fn handed_over(found: &Found, room: usize) -> (Answer, Vec<u8>) {
     match found {
-        None => (Answer::of(7), Vec::new()),
-        Some(list) if list.len() > room => (Answer::at(25, list.len()), Vec::new()),
-        Some(list) => (Answer::at(8, list.len()), list),
+        Err(answer) => (*answer, Vec::new()),
+        Ok(list) if list.len() > room => (Answer::at(25, list.len()), Vec::new()),
+        Ok(list) => (Answer::at(8, list.len()), list.clone()),
     }
 }
 

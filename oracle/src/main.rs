@@ -30,18 +30,19 @@ mod judge;
 mod plain;
 mod random;
 mod rt;
+mod speed;
 mod table;
 mod text;
 
 use std::io::{BufWriter, Write};
 use std::process::ExitCode;
-use std::time::Instant;
 
 use answer::Answer;
-use compare::Comparison;
+use archive::{CALLS, MISTAKES};
+use compare::{Comparison, Difference};
 use judge::{each_run, Oracle};
-use plain::{Plain, Slip, SLIPS};
-use text::{hex, run_line, unhex, Chance};
+use plain::{Slip, SLIPS};
+use text::{hex, run_line, unhex};
 
 const USAGE: &str = "modes:
   judge TABLE LIST [SHEETLEN]    the six numbers, then the sheet
@@ -57,6 +58,7 @@ const USAGE: &str = "modes:
   emit walk SEED COUNT           cases: first or next|table|list|room|answer|list
   replay                         emit's lines on standard input, said again
   speed [COUNT]                  decisions a second
+  speed walk [CAP]               runs a second, by first and next
 TABLE and LIST are hexadecimal; \"\" is the empty one.";
 
 const ENOUGH_ROOM: usize = 1766;
@@ -106,7 +108,8 @@ fn run(words: &[&str]) -> Option<bool> {
         }
         ["replay"] => return Some(emit::replay()),
         ["emit", seed, count] => emit::emit(seed.parse().ok()?, count.parse().ok()?),
-        ["speed", rest @ ..] => speed(number_or(rest, 2000)?),
+        ["speed", "walk", rest @ ..] => speed::walk(number_or(rest, 1000)?),
+        ["speed", rest @ ..] => speed::judge(number_or(rest, 2000)?),
         _ => return None,
     }
     Some(true)
@@ -158,8 +161,9 @@ fn compare_limits() -> bool {
     told(&comparison, found.err())
 }
 
-fn told(comparison: &Comparison, found: Option<Box<compare::Difference>>) -> bool {
+fn told(comparison: &Comparison, found: Option<Box<Difference>>) -> bool {
     println!("compared: {}", comparison.counts);
+    println!("of these with the archive: {}", comparison.archive);
     match &found {
         None => println!("no disagreement"),
         Some(difference) => println!("DISAGREEMENT\n{difference}"),
@@ -167,71 +171,44 @@ fn told(comparison: &Comparison, found: Option<Box<compare::Difference>>) -> boo
     found.is_none()
 }
 
-/// Each slip in the plain engine, until a comparison notices it.
+/// Each slip in the plain engine, then each mistake in what the archive is
+/// expected to say, until a comparison notices it.
 fn slips() -> bool {
     let mut missed = 0;
     for slip in SLIPS {
-        match noticed(slip) {
-            Some((by, difference)) => println!("{slip:?}: noticed by {by}\n{difference}"),
-            None => {
-                missed += 1;
-                println!("{slip:?}: NOT NOTICED");
-            }
+        let found = noticed(&|| Comparison::new(slip));
+        missed += told_of_slip(&format!("{slip:?}"), found) as usize;
+    }
+    println!("{} slips in the plain engine, {missed} not noticed", SLIPS.len());
+    let (mut tried, mut missed_by_archive) = (0, 0);
+    for call in CALLS.into_iter().filter(|call| call.is_built_in()) {
+        for mistake in MISTAKES.into_iter().filter(|mistake| mistake.fits(call)) {
+            tried += 1;
+            let found = noticed(&|| Comparison::expecting(call, mistake));
+            missed_by_archive += told_of_slip(&format!("{call:?}, {mistake:?}"), found) as usize;
         }
     }
-    println!("{} slips, {missed} not noticed", SLIPS.len());
-    missed == 0
+    println!("{tried} slips in what the archive should say, {missed_by_archive} not noticed");
+    missed + missed_by_archive == 0
+}
+
+/// Prints by what a slip was noticed; true if by nothing.
+fn told_of_slip(name: &str, found: Option<(&str, Box<Difference>)>) -> bool {
+    match &found {
+        Some((by, difference)) => println!("{name}: noticed by {by}\n{difference}"),
+        None => println!("{name}: NOT NOTICED"),
+    }
+    found.is_none()
 }
 
 /// The quickest comparison that notices a slip, and the smallest case it has.
-fn noticed(slip: Slip) -> Option<(&'static str, Box<compare::Difference>)> {
-    if let Err(difference) = Comparison::new(slip).small(2, "all") {
+fn noticed(new: &dyn Fn() -> Comparison) -> Option<(&'static str, Box<Difference>)> {
+    if let Err(difference) = new().small(2, "all") {
         return Some(("compare small 2", difference));
     }
-    if let Err(difference) = Comparison::new(slip).random(1, 20_000) {
+    if let Err(difference) = new().random(1, 20_000) {
         return Some(("compare random 1 20000", difference));
     }
-    let small = Comparison::new(slip).small(3, "all").err();
+    let small = new().small(3, "all").err();
     small.map(|difference| ("compare small 3", difference))
-}
-
-/// Decisions a second of each engine, on the same lists. A sheet is written
-/// where a judge call gives one, and by the oracle before each turn too.
-fn speed(tables: usize) {
-    let mut chance = Chance::new(7);
-    let mut cases = Vec::new();
-    for _ in 0..tables {
-        let table = random::table(&mut chance);
-        let world = plain::read(&table, Slip::None).expect("a good table");
-        let list = random::list(&mut chance, &world);
-        cases.push((table, list));
-    }
-    let mut oracle = Oracle::new();
-    let plain = Plain { slip: Slip::None };
-    timed("oracle", &cases, &mut |table, list| oracle.judge(table, list, ENOUGH_ROOM));
-    timed("plain", &cases, &mut |table, list| plain.judge(table, list, ENOUGH_ROOM));
-    #[cfg(archive)]
-    {
-        let mut sheet = [0; ENOUGH_ROOM];
-        timed("archive", &cases, &mut |table, list| {
-            (archive::judge_into(table, list, &mut sheet), Vec::new())
-        });
-    }
-}
-
-type Judge<'a> = &'a mut dyn FnMut(&[u8], &[u8]) -> (Answer, Vec<u8>);
-
-fn timed(name: &str, cases: &[(Vec<u8>, Vec<u8>)], judge: Judge) {
-    let decisions: usize = cases.iter().map(|(_, list)| list.len()).sum();
-    let begun = Instant::now();
-    let mut rounds = 0;
-    while begun.elapsed().as_secs() < 2 {
-        for (table, list) in cases {
-            std::hint::black_box(judge(table, list));
-        }
-        rounds += 1;
-    }
-    let rate = (decisions * rounds) as f64 / begun.elapsed().as_secs_f64();
-    let count = cases.len();
-    println!("{name}: {count} lists, {decisions} decisions, {rounds} rounds: {rate:.0} decisions a second");
 }

@@ -358,6 +358,19 @@ pub fn list(chance: &mut Chance, start: &World) -> Vec<u8> {
     }
 }
 
+/// The largest complete list.
+pub fn largest_list(start: &World) -> Vec<u8> {
+    let mut world = start.clone();
+    let mut decisions = Vec::new();
+    loop {
+        let decision = world.allowed_mask().ilog2() as u8;
+        decisions.push(decision);
+        if let Step::Verdict(_) = world.step(decision) {
+            return decisions;
+        }
+    }
+}
+
 fn pick(chance: &mut Chance, habit: Habit, allowed: u8, last: Option<u8>) -> u8 {
     let all: Vec<u8> = (0..8).filter(|decision| allowed >> decision & 1 == 1).collect();
     if chance.once_in(6) {
