@@ -127,11 +127,15 @@ impl Buffer {
             && self.bytes[end..] == self.pattern[end..self.bytes.len()]
     }
 
-    /// From the buffer's first byte to the last one that has changed.
+    /// From the buffer's first byte to the last one that has changed, and
+    /// whether a fence has.
     fn changed(&self) -> String {
-        let mut pairs = self.bytes.iter().zip(&self.pattern);
-        let last = pairs.rposition(|(is, was)| is != was);
-        hex(last.map_or(&[], |last| &self.bytes[FENCE.min(last)..=last]))
+        let end = self.bytes.len() - FENCE;
+        let has_changed = |at: &usize| self.bytes[*at] != self.pattern[*at];
+        let last = (FENCE..end).rfind(has_changed).map_or(FENCE, |last| last + 1);
+        let outside = (0..FENCE).chain(end..self.bytes.len()).any(|at| has_changed(&at));
+        let note = if outside { ", and a byte outside the buffer has changed" } else { "" };
+        format!("{}{note}", hex(&self.bytes[FENCE..last]))
     }
 }
 

@@ -12,7 +12,7 @@ use crate::text::{hex, unhex, Chance};
 /// No feature asks for more cases than this.
 const ENOUGH: usize = 12;
 /// Random tables looked at before picking.
-const ROUNDS: usize = 200_000;
+pub const ROUNDS: usize = 200_000;
 
 /// Every verdict that an operation can meet, every place where a thread can be
 /// stuck, and the other features that no list of cases should lack.
@@ -74,9 +74,9 @@ const REQUIRED: [&str; 55] = [
     "a list of 500 and more",
 ];
 
-struct Case {
-    table: Vec<u8>,
-    list: Vec<u8>,
+pub struct Case {
+    pub table: Vec<u8>,
+    pub list: Vec<u8>,
     length: usize,
 }
 
@@ -121,59 +121,40 @@ pub fn emit(seed: u64, count: usize) {
     }
 }
 
-/// Cases of `first` and `next`: the same number of each answer of each call.
-/// Lines `call|table|list|room|answer|list found`.
-pub fn emit_walk(seed: u64, count: usize) {
-    let mut chance = Chance::new(seed);
-    let mut oracle = Oracle::new();
-    let mut met: BTreeMap<(&str, u8), usize> = BTreeMap::new();
-    // Five answers of `first`, nine of `next`.
-    let share = count.div_ceil(14);
-    let mut printed = 0;
-    for round in 0..ROUNDS {
-        for case in cases(&mut chance, round).iter().filter(|case| case.list.len() <= 60) {
-            let room = chance.pick(&[600, 600, case.list.len(), case.list.len() / 2]);
-            let call = if chance.once_in(4) { "first" } else { "next" };
-            let (list, (answer, found)) = match call {
-                "first" => (&[][..], oracle.first(&case.table, room)),
-                _ => (&case.list[..], oracle.next(&case.table, &case.list, room)),
-            };
-            let times = met.entry((call, answer.number)).or_default();
-            if *times < share && printed < count {
-                *times += 1;
-                printed += 1;
-                let (table, list, found) = (hex(&case.table), hex(list), hex(&found));
-                println!("{call}|{table}|{list}|{room}|{}|{found}", answer.text());
-            }
-        }
-        if printed == count {
-            break;
-        }
-    }
-    met.iter().for_each(|((call, number), times)| eprintln!("{times:6}  {call}, answer {number}"));
-}
-
-/// Says the lines of `emit` again, read from standard input: how many lines
-/// each engine agrees with. True if all.
+/// Says the lines of `emit` and `emit walk` again, read from standard input:
+/// how many lines each engine agrees with. True if all.
 pub fn replay() -> bool {
     let mut oracle = Oracle::new();
-    let plain = Plain { slip: Slip::None };
     let (mut lines, mut good) = (0, [0, 0]);
     for text in std::io::stdin().lines().map_while(Result::ok) {
         lines += 1;
-        let fields: Vec<&str> = text.split('|').collect();
-        let [table, list, length, answer, sheet] = fields[..] else { continue };
-        let (Some(table), Some(list), Ok(length)) = (unhex(table), unhex(list), length.parse())
-        else {
-            continue;
-        };
-        let answers = [oracle.judge(&table, &list, length), plain.judge(&table, &list, length)];
+        let Some((answers, answer, written)) = said_again(&mut oracle, &text) else { continue };
         for (engine, (given, bytes)) in answers.iter().enumerate() {
-            good[engine] += (given.text() == answer && hex(bytes) == sheet) as usize;
+            good[engine] += (given.text() == answer && hex(bytes) == written) as usize;
         }
     }
     println!("{lines} lines; the oracle agrees on {}, the plain engine on {}", good[0], good[1]);
     good == [lines, lines]
+}
+
+/// What the oracle and the plain engine say to a line, and the line's own
+/// answer and bytes. `None` if it is no such line.
+fn said_again<'a>(
+    oracle: &mut Oracle,
+    line: &'a str,
+) -> Option<([(Answer, Vec<u8>); 2], &'a str, &'a str)> {
+    let plain = Plain { slip: Slip::None };
+    let mut fields: Vec<&str> = line.split('|').collect();
+    let call = if fields.len() == 6 { fields.remove(0) } else { "judge" };
+    let [table, list, length, answer, written] = fields[..] else { return None };
+    let (table, list, length) = (unhex(table)?, unhex(list)?, length.parse().ok()?);
+    let answers = match call {
+        "judge" => [oracle.judge(&table, &list, length), plain.judge(&table, &list, length)],
+        "first" => [oracle.first(&table, length), plain.first(&table, length)],
+        "next" => [oracle.next(&table, &list, length), plain.next(&table, &list, length)],
+        _ => return None,
+    };
+    Some((answers, answer, written))
 }
 
 /// Cases to pick from, small ones first.
@@ -232,7 +213,7 @@ fn line(oracle: &mut Oracle, case: &Case) -> String {
 }
 
 /// A random table with a few lists; in each fourth round a damaged one.
-fn cases(chance: &mut Chance, round: usize) -> Vec<Case> {
+pub fn cases(chance: &mut Chance, round: usize) -> Vec<Case> {
     let table = random::table(chance);
     let world = plain::read(&table, Slip::None).expect("a good table");
     let list = random::list(chance, &world);

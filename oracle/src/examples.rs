@@ -31,6 +31,7 @@ const STALE_BLOCKED: &str = "12 10 00 13 00 00 20 3C 02 39 00 01 30 01 20 3C 02 
 const OWN_STALE: &str = "12 10 00 13 00 00 20 3C 02 39 00 01 3A 00 20 3C 02";
 const QUESTION: &str = "13 00 01 20 3D 00 3D 00";
 const NOTIFIED: &str = "12 10 00 20 39 00 01 20 3A 00";
+const J: [u8; 6] = [0x13, 0, 1, 0x20, 0x3D, 0];
 
 // Offsets: a thread record is 17 bytes; state, position, phase, answer are its
 // bytes 1 to 4.
@@ -103,14 +104,21 @@ pub fn examples() -> bool {
     good == [all, all]
 }
 
+/// The name, table and list of each example; of j the two lists.
+pub fn tables_and_lists() -> Vec<(&'static str, Vec<u8>, Vec<u8>)> {
+    let bytes = |text: &str| unhex(text).expect("hexadecimal");
+    let given = EXAMPLES.iter().map(|of| (of.name, bytes(of.table), bytes(of.list)));
+    let j = [vec![0, 0], vec![0, 1, 0]].map(|list| ("j", J.to_vec(), list));
+    given.chain(j).collect()
+}
+
 /// What the program `runs` prints for example j, by each engine.
 fn example_j(oracle: &mut Oracle) -> [Vec<String>; 2] {
-    let table = [0x13, 0, 1, 0x20, 0x3D, 0];
     let mut printed = [Vec::new(), Vec::new()];
     let [of_oracle, of_plain] = &mut printed;
-    let run = oracle.open(&table).expect("a good table");
+    let run = oracle.open(&J).expect("a good table");
     each_run(run, &mut |list, answer| of_oracle.push(run_line(answer.number, list)));
-    let world = plain::read(&table, Slip::None).expect("a good table");
+    let world = plain::read(&J, Slip::None).expect("a good table");
     let mut run = PlainRun::new(world);
     each_run(&mut run, &mut |list, answer| of_plain.push(run_line(answer.number, list)));
     printed

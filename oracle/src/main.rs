@@ -24,6 +24,7 @@ mod answer;
 mod archive;
 mod compare;
 mod emit;
+mod emit_walk;
 mod examples;
 mod families;
 mod judge;
@@ -56,7 +57,7 @@ const USAGE: &str = "modes:
   slips                          every slip must be noticed
   emit SEED COUNT                cases: table|list|length|answer|sheet
   emit walk SEED COUNT           cases: first or next|table|list|room|answer|list
-  replay                         emit's lines on standard input, said again
+  replay                         such lines on standard input, said again
   speed [COUNT]                  decisions a second
   speed walk [CAP]               runs a second, by first and next
 TABLE and LIST are hexadecimal; \"\" is the empty one.";
@@ -104,7 +105,7 @@ fn run(words: &[&str]) -> Option<bool> {
         ["compare", "limits"] => return Some(compare_limits()),
         ["slips"] => return Some(slips()),
         ["emit", "walk", seed, count] => {
-            emit::emit_walk(seed.parse().ok()?, count.parse().ok()?);
+            emit_walk::emit_walk(seed.parse().ok()?, count.parse().ok()?);
         }
         ["replay"] => return Some(emit::replay()),
         ["emit", seed, count] => emit::emit(seed.parse().ok()?, count.parse().ok()?),
