@@ -6,7 +6,7 @@ use std::fmt;
 use crate::answer::{Answer, Machine, Step};
 use crate::archive::{Archive, Call, Mistake};
 use crate::families::families;
-use crate::judge::{self, handed_over, Oracle};
+use crate::judge::{handed_over, Found, Oracle};
 use crate::plain::{self, Plain, Slip, World};
 use crate::random;
 use crate::rt::Run;
@@ -65,7 +65,8 @@ impl fmt::Display for Difference {
     }
 }
 
-type Found = Result<(), Box<Difference>>;
+/// Agreement, or where it ends.
+type Agreed = Result<(), Box<Difference>>;
 
 /// An answer, and what is written.
 type Said = (Answer, Vec<u8>);
@@ -107,7 +108,7 @@ impl Comparison {
 
     // ===== whole calls =====
 
-    fn judge(&mut self, table: &[u8], list: &[u8], length: usize) -> Found {
+    fn judge(&mut self, table: &[u8], list: &[u8], length: usize) -> Agreed {
         self.counts.judged += 1;
         let oracle = self.oracle.judge(table, list, length);
         let plain = self.plain.judge(table, list, length);
@@ -115,7 +116,7 @@ impl Comparison {
     }
 
     /// First or next, with each kind of room: exact, one short, none, more.
-    fn walk(&mut self, call: Call, table: &[u8], list: &[u8]) -> Found {
+    fn walk(&mut self, call: Call, table: &[u8], list: &[u8]) -> Agreed {
         let found = match call {
             Call::First => self.oracle.first_list(table),
             _ => self.oracle.next_list(table, list),
@@ -137,8 +138,8 @@ impl Comparison {
         table: &[u8],
         list: &[u8],
         room: usize,
-        found: &judge::Found,
-    ) -> Found {
+        found: &Found,
+    ) -> Agreed {
         let plain = match call {
             Call::First => self.plain.first(table, room),
             _ => self.plain.next(table, list, room),
@@ -155,7 +156,7 @@ impl Comparison {
         length: usize,
         oracle: Said,
         plain: Said,
-    ) -> Found {
+    ) -> Agreed {
         let expected = (oracle.0, &oracle.1[..]);
         let archive = self.archive.differs(call, (table, list), length, expected);
         if oracle == plain && archive.is_none() {
@@ -218,7 +219,7 @@ impl Comparison {
 
     /// The archive's judge where the two have just been found to agree: at a
     /// front part, or at a list's end.
-    fn front(&mut self, table: &[u8], list: &[u8], step: Step) -> Found {
+    fn front(&mut self, table: &[u8], list: &[u8], step: Step) -> Agreed {
         let answer = match step {
             Step::Verdict(answer) => answer,
             Step::Wants | Step::Refused => Answer::of(6),
@@ -257,7 +258,7 @@ impl Comparison {
         world: &World,
         front: &mut Vec<u8>,
         tree: &mut Tree,
-    ) -> Found {
+    ) -> Agreed {
         for (nth, decision) in members(world.allowed_mask()).enumerate() {
             if nth > 0 {
                 run.restart();
@@ -280,7 +281,7 @@ impl Comparison {
         Ok(())
     }
 
-    fn all_runs(&mut self, table: &[u8], runs: &mut Run) -> Found {
+    fn all_runs(&mut self, table: &[u8], runs: &mut Run) -> Agreed {
         self.counts.tables += 1;
         let (read, world) = match (Table::read(table), plain::read(table, self.plain.slip)) {
             (Ok(read), Ok(world)) => (read, world),
@@ -299,7 +300,7 @@ impl Comparison {
 
     /// First and next give the runs that the search met: each once, in rising
     /// order, then 7. Every second list just fits.
-    fn step_through(&mut self, tree: &Tree) -> Found {
+    fn step_through(&mut self, tree: &Tree) -> Agreed {
         assert!(tree.runs.is_sorted_by(|one, other| one < other), "the search goes upwards");
         for (number, list) in tree.runs.iter().enumerate() {
             self.counts.steps += 1;
@@ -320,11 +321,13 @@ impl Comparison {
 
     /// Whole calls on some lists of a table: the first, the second, and then
     /// ever fewer.
-    fn some_calls(&mut self, tree: &Tree) -> Found {
+    fn some_calls(&mut self, tree: &Tree) -> Agreed {
         let Tree { table, length, runs } = tree;
         self.walk(Call::First, table, &[])?;
-        for list in runs.iter().enumerate().filter(|(number, _)| (number + 1).is_power_of_two()) {
-            let (_, list) = list;
+        for (number, list) in runs.iter().enumerate() {
+            if !(number + 1).is_power_of_two() {
+                continue;
+            }
             let (cut, surplus) = (&list[..list.len() - 1], [&list[..], &[0]].concat());
             self.judge(table, list, *length)?;
             self.judge(table, cut, *length)?;
@@ -341,7 +344,7 @@ impl Comparison {
     // ===== the comparisons =====
 
     /// All small tables of some families, up to `most` operations in all.
-    pub fn small(&mut self, most: usize, name: &str) -> Found {
+    pub fn small(&mut self, most: usize, name: &str) -> Agreed {
         let mut runs = Run::new();
         let families = families(name);
         for count in 0..=most {
@@ -353,7 +356,7 @@ impl Comparison {
     }
 
     /// Random tables and lists, and damaged copies of both.
-    pub fn random(&mut self, seed: u64, count: u64) -> Found {
+    pub fn random(&mut self, seed: u64, count: u64) -> Agreed {
         let mut chance = Chance::new(seed);
         let mut runs = Run::new();
         for _ in 0..count {
@@ -362,7 +365,7 @@ impl Comparison {
         Ok(())
     }
 
-    fn random_case(&mut self, chance: &mut Chance, runs: &mut Run) -> Found {
+    fn random_case(&mut self, chance: &mut Chance, runs: &mut Run) -> Agreed {
         let table = random::table(chance);
         self.counts.tables += 1;
         let (Ok(read), Ok(world)) = (Table::read(&table), plain::read(&table, self.plain.slip))
@@ -400,7 +403,7 @@ impl Comparison {
 
     /// The tables at the limits: a few runs of each, the smallest and the
     /// largest among them.
-    pub fn limits(&mut self) -> Found {
+    pub fn limits(&mut self) -> Agreed {
         let mut runs = Run::new();
         for (about, table) in random::limits() {
             self.counts.tables += 1;
@@ -426,7 +429,7 @@ impl Comparison {
     }
 
     /// One list, state by state.
-    fn along(&mut self, table: &[u8], list: &[u8], run: &mut Run, mut world: World) -> Found {
+    fn along(&mut self, table: &[u8], list: &[u8], run: &mut Run, mut world: World) -> Agreed {
         self.counts.long += (list.len() >= 100) as u64;
         self.counts.longest = self.counts.longest.max(list.len());
         let length = world.sheet_bytes().len();
@@ -474,7 +477,7 @@ impl Comparison {
     }
 
     /// The call of a disagreement, with another input.
-    fn again(&mut self, than: &Difference, table: &[u8], list: &[u8]) -> Found {
+    fn again(&mut self, than: &Difference, table: &[u8], list: &[u8]) -> Agreed {
         match than.call {
             Call::Judge => self.judge(table, list, than.length),
             Call::Front => {

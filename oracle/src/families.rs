@@ -1,5 +1,12 @@
 //! Small tables, all of them: families of objects with the operations on them.
 
+// Places in `OBJECTS`.
+pub const MUTEX: usize = 0;
+pub const RWLOCK: usize = 1;
+pub const CONDVAR: usize = 2;
+pub const NOTIFY: usize = 3;
+pub const CELL: usize = 7;
+
 /// Objects as a table writes them.
 const OBJECTS: [&[u8]; 8] =
     [&[0x10, 0], &[0x11], &[0x12], &[0x13, 0, 0], &[0x13, 0, 1], &[0x14], &[0x15], &[0x16]];
@@ -34,7 +41,8 @@ fn operations_on(kind: u8, number: u8, mutexes: &[u8]) -> Vec<Vec<u8>> {
     all
 }
 
-fn family(of: &[usize]) -> Family {
+/// The family of some objects, each by its place in `OBJECTS`.
+pub fn family(of: &[usize]) -> Family {
     let numbered =
         || of.iter().enumerate().map(|(number, object)| (number as u8, OBJECTS[*object]));
     let mutexes: Vec<u8> =

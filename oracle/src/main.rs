@@ -28,6 +28,7 @@ mod emit_walk;
 mod examples;
 mod families;
 mod judge;
+mod minimal;
 mod plain;
 mod random;
 mod rt;
@@ -55,6 +56,7 @@ const USAGE: &str = "modes:
   compare random SEED COUNT
   compare limits                 tables at the limits
   slips                          every slip must be noticed
+  minimal                        the smallest inputs where paper and loom part
   emit SEED COUNT                cases: table|list|length|answer|sheet
   emit walk SEED COUNT           cases: first or next|table|list|room|answer|list
   replay                         such lines on standard input, said again
@@ -107,6 +109,7 @@ fn run(words: &[&str]) -> Option<bool> {
         ["emit", "walk", seed, count] => {
             emit_walk::emit_walk(seed.parse().ok()?, count.parse().ok()?);
         }
+        ["minimal"] => minimal::minimal(),
         ["replay"] => return Some(emit::replay()),
         ["emit", seed, count] => emit::emit(seed.parse().ok()?, count.parse().ok()?),
         ["speed", "walk", rest @ ..] => speed::walk(number_or(rest, 1000)?),

@@ -1,5 +1,6 @@
 //! How fast each engine is, on the same inputs.
 
+use std::hint::black_box;
 use std::time::Instant;
 
 use crate::archive::{self, Call};
@@ -38,8 +39,8 @@ pub fn judge(tables: usize) {
         cases.push((table, list));
     }
     let mut oracle = Oracle::new();
-    timed("oracle", &cases, &mut |table, list| drop(oracle.judge(table, list, SHEET)));
-    timed("plain", &cases, &mut |table, list| drop(PLAIN.judge(table, list, SHEET)));
+    timed("oracle", &cases, &mut |table, list| drop(black_box(oracle.judge(table, list, SHEET))));
+    timed("plain", &cases, &mut |table, list| drop(black_box(PLAIN.judge(table, list, SHEET))));
     if Call::Judge.is_built_in() {
         let mut sheet = [0; SHEET];
         timed("archive", &cases, &mut |table, list| {

@@ -77,6 +77,12 @@ impl Run {
         self.asked
     }
 
+    /// The state as loom's panic has left it; the sheet shows the one before.
+    pub(crate) fn left_behind(&self, out: &mut Vec<u8>) {
+        let ground = self.ground();
+        sheet::write(ground, &ground.execution, out);
+    }
+
     fn ground(&self) -> &Ground {
         // SAFETY: no thread runs while the driver does; see `control`.
         unsafe { &*self.ground }
