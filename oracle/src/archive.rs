@@ -100,8 +100,8 @@ fn text(word: Word) -> String {
 /// Bytes on either side of a lent buffer that belong to nobody.
 const FENCE: usize = 16;
 
-/// A buffer to lend, between two fences. All of it is filled with a pattern
-/// that no sheet and no list has, so that a byte written in the wrong place shows.
+/// A buffer to lend, between two fences. All of it is filled with a pattern, so
+/// that a byte written in the wrong place shows.
 #[derive(Default)]
 struct Buffer {
     bytes: Vec<u8>,
