@@ -4,7 +4,7 @@ use std::collections::{BTreeMap, BTreeSet};
 
 use crate::answer::{Answer, Machine, Step};
 use crate::judge::Oracle;
-use crate::plain::{self, Plain, Slip};
+use crate::plain::{self, Plain, Slip, SLIPS};
 use crate::random;
 use crate::table::{Operation, Table};
 use crate::text::{hex, unhex, Chance};
@@ -122,39 +122,67 @@ pub fn emit(seed: u64, count: usize) {
 }
 
 /// Says the lines of `emit` and `emit walk` again, read from standard input:
-/// how many lines each engine agrees with. True if all.
+/// how many lines each engine agrees with, and which slips no line notices.
+/// True if both engines agree with all.
 pub fn replay() -> bool {
     let mut oracle = Oracle::new();
     let (mut lines, mut good) = (0, [0, 0]);
+    let mut unnoticed = SLIPS.to_vec();
     for text in std::io::stdin().lines().map_while(Result::ok) {
-        lines += 1;
-        let Some((answers, answer, written)) = said_again(&mut oracle, &text) else { continue };
-        for (engine, (given, bytes)) in answers.iter().enumerate() {
-            good[engine] += (given.text() == answer && hex(bytes) == written) as usize;
+        if text.starts_with('#') {
+            continue;
         }
+        lines += 1;
+        let Some(line) = Line::read(&text) else { continue };
+        good[0] += line.is(line.by_oracle(&mut oracle)) as usize;
+        good[1] += line.is(line.by_plain(Slip::None)) as usize;
+        unnoticed.retain(|slip| line.is(line.by_plain(*slip)));
     }
     println!("{lines} lines; the oracle agrees on {}, the plain engine on {}", good[0], good[1]);
+    println!("slips in the plain engine that no line notices: {unnoticed:?}");
     good == [lines, lines]
 }
 
-/// What the oracle and the plain engine say to a line, and the line's own
-/// answer and bytes. `None` if it is no such line.
-fn said_again<'a>(
-    oracle: &mut Oracle,
-    line: &'a str,
-) -> Option<([(Answer, Vec<u8>); 2], &'a str, &'a str)> {
-    let plain = Plain { slip: Slip::None };
-    let mut fields: Vec<&str> = line.split('|').collect();
-    let call = if fields.len() == 6 { fields.remove(0) } else { "judge" };
-    let [table, list, length, answer, written] = fields[..] else { return None };
-    let (table, list, length) = (unhex(table)?, unhex(list)?, length.parse().ok()?);
-    let answers = match call {
-        "judge" => [oracle.judge(&table, &list, length), plain.judge(&table, &list, length)],
-        "first" => [oracle.first(&table, length), plain.first(&table, length)],
-        "next" => [oracle.next(&table, &list, length), plain.next(&table, &list, length)],
-        _ => return None,
-    };
-    Some((answers, answer, written))
+/// A line that was read.
+struct Line<'a> {
+    call: &'a str,
+    table: Vec<u8>,
+    list: Vec<u8>,
+    length: usize,
+    answer: &'a str,
+    written: &'a str,
+}
+
+impl Line<'_> {
+    fn read(text: &str) -> Option<Line<'_>> {
+        let mut fields: Vec<&str> = text.split('|').collect();
+        let call = if fields.len() == 6 { fields.remove(0) } else { "judge" };
+        let [table, list, length, answer, written] = fields[..] else { return None };
+        let (table, list, length) = (unhex(table)?, unhex(list)?, length.parse().ok()?);
+        let known = ["judge", "first", "next"].contains(&call);
+        known.then_some(Line { call, table, list, length, answer, written })
+    }
+
+    fn by_oracle(&self, oracle: &mut Oracle) -> (Answer, Vec<u8>) {
+        match self.call {
+            "judge" => oracle.judge(&self.table, &self.list, self.length),
+            "first" => oracle.first(&self.table, self.length),
+            _ => oracle.next(&self.table, &self.list, self.length),
+        }
+    }
+
+    fn by_plain(&self, slip: Slip) -> (Answer, Vec<u8>) {
+        let plain = Plain { slip };
+        match self.call {
+            "judge" => plain.judge(&self.table, &self.list, self.length),
+            "first" => plain.first(&self.table, self.length),
+            _ => plain.next(&self.table, &self.list, self.length),
+        }
+    }
+
+    fn is(&self, (answer, written): (Answer, Vec<u8>)) -> bool {
+        self.answer == answer.text() && self.written == hex(&written)
+    }
 }
 
 /// Cases to pick from, small ones first.

@@ -55,7 +55,8 @@ fn timed(name: &str, cases: &[(Vec<u8>, Vec<u8>)], judge: &mut dyn FnMut(&[u8], 
         rounds(&mut || cases.iter().for_each(|(table, list)| judge(table, list)));
     let rate = (decisions * rounds) as f64 / seconds;
     let count = cases.len();
-    println!("{name}: {count} lists, {decisions} decisions, {rounds} rounds: {rate:.0} decisions a second");
+    let work = format!("{count} lists, {decisions} decisions, {rounds} rounds");
+    println!("{name}: {work}: {rate:.0} decisions a second");
 }
 
 /// Takes a table and a list, and puts the following list in its place; the
@@ -128,5 +129,7 @@ fn timed_walk(name: &str, tables: &[Vec<u8>], cap: usize, follow: Follow) {
     });
     let rate = runs as f64 / seconds;
     let (count, runs, decisions) = (tables.len(), runs / rounds, decisions / rounds);
-    println!("{name}: {count} tables, {runs} runs, {decisions} decisions in them, {rounds} rounds: {rate:.0} runs a second");
+    let work =
+        format!("{count} tables, {runs} runs, {decisions} decisions in them, {rounds} rounds");
+    println!("{name}: {work}: {rate:.0} runs a second");
 }
