@@ -2,10 +2,13 @@
 ghost use mathlib.Core.Path.{_≡_};
 ghost use Rattle.rules.specs.Answer.{numbersOf};
 ghost use Rattle.rules.specs.Judge.{judgeOf};
+ghost use Rattle.rules.specs.Walk.{firstOf, nextOf};
 ghost use Rattle.skeldurn.specs.Word.{wordOf, numbersIn};
 use rules::answer::Numbers;
 use tables::answer::numbers;
 use turns::judge::judge;
+use walk::walk::first;
+use walk::walk::next;
 
 fn wide(n: u8) -> u64
     ensures { λ r. ⌜ r ≡ n ⌝ }
@@ -31,5 +34,27 @@ pub extern "C" fn skeldurn_judge(table: &[u8], list: &[u8], sheet: &mut [u8]) ->
     ensures { λ _. ⌜ now (sheet .exit) ≡ judgeOf (now (table .entry)) (now (list .entry)) (now (sheet .entry)) .buffer ⌝ }
 {
     let answer = judge(table, list, sheet);
+    word(numbers(answer))
+}
+
+// The smallest complete list.
+#[no_mangle]
+pub extern "C" fn skeldurn_first(table: &[u8], list: &mut [u8]) -> u64
+    ensures { λ r. ⌜ r ≡ wordOf (numbersOf (firstOf (now (table .entry)) (now (list .entry)) .answer)) ⌝ }
+    ensures { λ r. ⌜ numbersIn r ≡ numbersOf (firstOf (now (table .entry)) (now (list .entry)) .answer) ⌝ }
+    ensures { λ _. ⌜ now (list .exit) ≡ firstOf (now (table .entry)) (now (list .entry)) .buffer ⌝ }
+{
+    let answer = first(table, list);
+    word(numbers(answer))
+}
+
+// The smallest complete list above a complete one.
+#[no_mangle]
+pub extern "C" fn skeldurn_next(table: &[u8], list: &[u8], next_list: &mut [u8]) -> u64
+    ensures { λ r. ⌜ r ≡ wordOf (numbersOf (nextOf (now (table .entry)) (now (list .entry)) (now (next_list .entry)) .answer)) ⌝ }
+    ensures { λ r. ⌜ numbersIn r ≡ numbersOf (nextOf (now (table .entry)) (now (list .entry)) (now (next_list .entry)) .answer) ⌝ }
+    ensures { λ _. ⌜ now (next_list .exit) ≡ nextOf (now (table .entry)) (now (list .entry)) (now (next_list .entry)) .buffer ⌝ }
+{
+    let answer = next(table, list, next_list);
     word(numbers(answer))
 }

@@ -43,31 +43,34 @@ shows table w buffer h (surplus i) = refl
 shows table w buffer h (unfinished v) = λ i. record { answer = More; buffer = sheet-over buffer table v h i }
 shows table w buffer h (verdict v) = λ i. record { answer = v .answer; buffer = sheet-over buffer table (v .world) h i }
 
--- what the table's reader hands back, and what the whole call then comes to
-module _ (list buffer : List ℕ) where
-  refused-at : (r : Read) (a : Answer) → readOf r .taken ≡ Refused a → untouched a buffer ≡ judgeTable r list buffer
-  unfolding judgeTable
-  refused-at (refused b) a e = let same : b ≡ a = cc in ap (λ (x : Answer). untouched x buffer) (sym same)
-  refused-at (accepted t) a e = let q : _≡_ {A = ℕ} 0 1 = cc in absurd (omega arith)
+-- what the table's reader hands back is what was read
+module _ (bs : List ℕ) (read : TableRead) (e : read ≡ readOf (readTable bs)) where
+  pub was-refused : (a : Answer) → read .taken ≡ Refused a → readTable bs ≡ refused a
+  was-refused a t = go (readTable bs) (ap (λ (x : TableRead). x .taken) (sym e) ∙ t)
+    where
+      go : (r : Read) → readOf r .taken ≡ Refused a → r ≡ refused a
+      go (refused b) q = ap refused cc
+      go (accepted table) q = let z : _≡_ {A = ℕ} 0 1 = cc in absurd (omega (arith, z))
 
-  accepted-at : (r : Read) → readOf r .taken ≡ Accepted → r ≡ accepted (readOf r .table)
-  accepted-at (refused b) e = let q : _≡_ {A = ℕ} 0 1 = cc in absurd (omega arith)
-  accepted-at (accepted t) e = refl
+  pub was-accepted : read .taken ≡ Accepted → readTable bs ≡ accepted (read .table)
+  was-accepted t = go (readTable bs) (ap (λ (x : TableRead). x .taken) (sym e) ∙ t) ∙ ap (λ (x : TableRead). accepted (x .table)) (sym e)
+    where
+      go : (r : Read) → readOf r .taken ≡ Accepted → r ≡ accepted (readOf r .table)
+      go (refused b) q = let z : _≡_ {A = ℕ} 0 1 = cc in absurd (omega (arith, z))
+      go (accepted table) q = refl
 
-  module _ (bs : List ℕ) (read : TableRead) (e : read ≡ readOf (readTable bs)) where
+  -- and what the whole call then comes to
+  module _ (list buffer : List ℕ) where
     pub judged-refused : (a : Answer) → read .taken ≡ Refused a → untouched a buffer ≡ judgeOf bs list buffer
-    unfolding judgeOf
-    judged-refused a t = refused-at (readTable bs) a (ap (λ (x : TableRead). x .taken) (sym e) ∙ t)
-
-    taken-table : read .taken ≡ Accepted → readTable bs ≡ accepted (read .table)
-    taken-table t = accepted-at (readTable bs) (ap (λ (x : TableRead). x .taken) (sym e) ∙ t) ∙ ap (λ (x : TableRead). accepted (x .table)) (sym e)
+    unfolding judgeOf judgeTable
+    judged-refused a t = sym (ap (λ (r : Read). judgeTable r list buffer) (was-refused a t))
 
     pub judged-short : read .taken ≡ Accepted → length buffer < sheetLength (read .table) → untouched (TooShort (sheetLength (read .table))) buffer ≡ judgeOf bs list buffer
     unfolding judgeOf judgeTable
     judged-short t h =
-        sym (ap (λ (r : Read). judgeTable r list buffer) (taken-table t) ∙ rw (judgeTable, lt-leb (sheetLength (read .table)) (length buffer) h))
+        sym (ap (λ (r : Read). judgeTable r list buffer) (was-accepted t) ∙ rw (judgeTable, lt-leb (sheetLength (read .table)) (length buffer) h))
 
     pub judged-shown : read .taken ≡ Accepted → sheetLength (read .table) ≤ length buffer
         → shown (read .table) (judge (step (read .table)) 0 (start (read .table)) list) buffer ≡ judgeOf bs list buffer
     unfolding judgeOf judgeTable
-    judged-shown t h = sym (ap (λ (r : Read). judgeTable r list buffer) (taken-table t) ∙ rw (judgeTable, le-leb (sheetLength (read .table)) (length buffer) h))
+    judged-shown t h = sym (ap (λ (r : Read). judgeTable r list buffer) (was-accepted t) ∙ rw (judgeTable, le-leb (sheetLength (read .table)) (length buffer) h))

@@ -81,7 +81,7 @@ fn after(threads: [Thread; THREADS]) -> Acting
 }
 
 // A decision names a runnable thread, or answers the question with 0 or 1.
-fn is_allowed(asked: Asked, threads: [Thread; THREADS], d: u8) -> bool
+pub fn is_allowed(asked: Asked, threads: [Thread; THREADS], d: u8) -> bool
     ensures { λ r. ⌜ r ≡ isAllowed asked threads d ⌝ }
 {
     match asked {

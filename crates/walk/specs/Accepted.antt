@@ -2,7 +2,7 @@
 use mathlib.Core.Path.{_≡_, refl, sym, subst}
 use mathlib.Core.Bool.{true, _||_}
 use mathlib.Core.List.{List}
-use Prim.Native.Nat.{ℕ, zero, suc, _-_, _<_}
+use Prim.Native.Nat.{ℕ, zero, suc, _<_}
 use lib.Dec.{ltb}
 use lib.ListN.{replicate}
 use borrow.Author.Tests.{lt-ltb}
@@ -12,7 +12,6 @@ use Rattle.rules.specs.declared.thread.Phase.{Phase}
 use Rattle.rules.specs.declared.thread.Phase.the-variants as phase
 use Rattle.rules.specs.declared.thread.Thread.{Thread}
 use Rattle.rules.specs.Ground.{absent, isRunnable}
-use Rattle.rules.specs.Table.{accepted}
 use Rattle.rules.specs.TableLaws.{by-test, Within}
 use Rattle.rules.specs.Turn.{anyRunnable, startThread, start}
 use Rattle.walk.specs.Shape.{shape, shapes, Tidy}

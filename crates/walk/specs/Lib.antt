@@ -6,3 +6,7 @@ pub mod Accepted
 pub mod Length
 pub mod Meets
 pub mod Places
+pub mod Says
+pub mod Decided
+pub mod Passes
+pub mod Handed

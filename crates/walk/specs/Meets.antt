@@ -29,10 +29,10 @@ module _ (table : Table) (w : Within table) (some : 0 < table .«thread_count»)
   good : Good table (start table)
   good = start-good table w some
 
-  first-is : lists.IsFirst (step table) (start table) (next.firstOf (step table) decisions (left table) (start table))
+  pub first-is : lists.IsFirst (step table) (start table) (next.firstOf (step table) decisions (left table) (start table))
   first-is = next.first-first (step table) decisions (left table) (Good table) (bounded table step-on) (some-allowed table step-on) (keeps table step-on) (falls table step-on) (start table) good
 
-  next-is : (list : List ℕ) → Complete table list → lists.Answers (step table) (start table) list (next.nextOf (step table) decisions (left table) (start table) list)
+  pub next-is : (list : List ℕ) → Complete table list → lists.Answers (step table) (start table) list (next.nextOf (step table) decisions (left table) (start table) list)
   next-is list c = next.next-answers (step table) decisions (left table) (Good table) (bounded table step-on) (some-allowed table step-on) (keeps table step-on) (falls table step-on) (start table) list good c
 
   -- every complete list is met, starting with "first" and going on with "next"
@@ -44,6 +44,10 @@ module _ (table : Table) (w : Within table) (some : 0 < table .«thread_count»)
   pub met-once : (n : ℕ) (list : List ℕ) → length (walk.tree (step table) decisions (suc (left table (start table))) (start table)) ≤ n → Complete table list
       → walk.times list (walk.walk (step table) decisions (left table) n (start table)) ≡ 1
   met-once n list l c = walk.walk-once (step table) decisions (left table) (Good table) (bounded table step-on) (some-allowed table step-on) (keeps table step-on) (falls table step-on) n (start table) list good l c
+
+-- a list whose judgement is a verdict is complete
+pub complete-told : (t : Table) (list : List ℕ) (v : Verdict) → judge (step t) 0 (start t) list ≡ verdict v → Complete t list
+complete-told t list v q = subst T (sym (ap isVerdict q) ∙ judge-complete (step t) 0 (start t) list) tt
 
 pub first-meets : (bs buffer : List ℕ) → First bs buffer (firstOf bs buffer)
 unfolding firstOf firstTable
@@ -62,7 +66,7 @@ next-meets bs list buffer = go (readTable bs) refl
     by-list t w some (notAllowed i) q = refl
     by-list t w some (surplus i) q = refl
     by-list t w some (unfinished v) q = refl
-    by-list t w some (verdict v) q = (_, next-is t w some list (subst T (sym (ap isVerdict q) ∙ judge-complete (step t) 0 (start t) list) tt), refl)
+    by-list t w some (verdict v) q = (_, next-is t w some list (complete-told t list v q), refl)
 
     go : (r : Read) → readTable bs ≡ r → NextMust r list buffer (nextTable r list buffer)
     go (refused a) e = refl

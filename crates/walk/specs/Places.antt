@@ -1,14 +1,17 @@
--- Every place that the judge names is small: it fits 16 bits.
+-- Every place that an answer names is small: it fits 16 bits.
 use mathlib.Core.Path.{_≡_, refl, _∙_, subst}
+use mathlib.Core.Option.{Option}
+use mathlib.Core.Option as option
 use mathlib.Core.List.{List, [], _∷_}
 use Prim.Native.Nat.{ℕ, suc, _+_, _-_, _*_, _≤_, _<_}
 use native.Mathlib.Omega.{arith}
 use lib.Dec.{leb}
 use lib.ListN.{length, getD, set, length-set}
 use lib.Seq.{getD-set-same}
-use Rattle.lists.specs.Rules.{Outcome}
+use Rattle.lists.specs.Rules.{Outcome, Answers}
 use Rattle.lists.specs.Rules as outcome
 use Rattle.lists.specs.Judge.{Judged, notAllowed, surplus, unfinished, verdict, judgeAt, placeOf, judge}
+use Rattle.lists.specs.Next as next
 use Rattle.rules.specs.declared.table.Table.{Table}
 use Rattle.rules.specs.declared.table.Op.{Op}
 use Rattle.rules.specs.declared.table.Made.{Made}
@@ -23,11 +26,12 @@ use Rattle.rules.specs.Judge.{Verdict, step, Given, shown, judgeTable, judgeOf}
 use Rattle.rules.specs.JudgeLaws.{Told, judge-told}
 use Rattle.rules.specs.Sheet.{sheetLength}
 use Rattle.rules.specs.SheetLaws.{sheet-small}
-use Rattle.rules.specs.Walk.{left}
+use Rattle.rules.specs.Walk.{decisions, left, handOver, firstTable, firstOf, nextList, nextJudged, nextTable, nextOf}
 use Rattle.walk.specs.Falling.{Good}
 use Rattle.walk.specs.Machine.{keeps, falls}
-use Rattle.walk.specs.Length.{start-left}
+use Rattle.walk.specs.Length.{start-left, list-length}
 use Rattle.walk.specs.Accepted.{start-good}
+use Rattle.walk.specs.Meets.{first-is, next-is, complete-told}
 
 abbrev place : Answer → ℕ
 place a = numbersOf a .place
@@ -142,3 +146,41 @@ judge-place bs list buffer = go (readTable bs) refl
         let j = judged-place t (h .0) list 0 (start t) (start-good t (h .0) (h .1)) in
         by-test (λ (g : Given). place (g .answer) ≤ 1766) (leb (sheetLength t) (length buffer))
         (λ l. shown-place t _ buffer (judge-told t 0 (start t) list) (omega (arith, j, start-left t (h .0), h .0 .threads))) (λ l. sheet-small bs t e)
+
+-- a list that is handed over
+hand-place : (list buffer : List ℕ) → length list ≤ 582 → place (handOver list buffer .answer) ≤ 1766
+unfolding handOver numbersOf
+hand-place list buffer h = by-test (λ (g : Given). place (g .answer) ≤ 1766) (leb (length list) (length buffer)) (λ l. omega (arith, h)) (λ l. omega (arith, h))
+
+-- the place of every answer of "first", and of "next"
+pub first-place : (bs buffer : List ℕ) → place (firstOf bs buffer .answer) ≤ 1766
+unfolding firstOf firstTable
+first-place bs buffer = go (readTable bs) refl
+  where
+    go : (r : Read) → readTable bs ≡ r → place (firstTable r buffer .answer) ≤ 1766
+    go (refused a) e = omega (arith, refused-place bs a e)
+    go (accepted t) e =
+        let h = read-within bs t e in
+        hand-place _ buffer (omega (arith, list-length t (h .0) (h .1) _ (first-is t (h .0) (h .1) .whole), h .0 .threads))
+
+pub next-place : (bs list buffer : List ℕ) → place (nextOf bs list buffer .answer) ≤ 1766
+unfolding nextOf nextTable nextJudged nextList numbersOf
+next-place bs list buffer = go (readTable bs) refl
+  where
+    found : (t : Table) → Within t → 0 < t .«thread_count» → (o : Option (List ℕ)) → Answers (step t) (start t) list o → place (nextList o buffer .answer) ≤ 1766
+    found t w some option.none a = omega arith
+    found t w some (option.some m) a = hand-place m buffer (omega (arith, list-length t w some m (a .whole), w .threads))
+
+    by-list : (t : Table) → Within t → 0 < t .«thread_count» → (j : Judged World Verdict) → judge (step t) 0 (start t) list ≡ j → placeOf j ≤ 583
+        → place (nextJudged j (next.nextOf (step t) decisions (left t) (start t) list) buffer .answer) ≤ 1766
+    by-list t w some (notAllowed i) q h = omega (arith, h)
+    by-list t w some (surplus i) q h = omega (arith, h)
+    by-list t w some (unfinished v) q h = omega arith
+    by-list t w some (verdict v) q h = found t w some (next.nextOf (step t) decisions (left t) (start t) list) (next-is t w some list (complete-told t list v q))
+
+    go : (r : Read) → readTable bs ≡ r → place (nextTable r list buffer .answer) ≤ 1766
+    go (refused a) e = omega (arith, refused-place bs a e)
+    go (accepted t) e =
+        let h = read-within bs t e in
+        let j = judged-place t (h .0) list 0 (start t) (start-good t (h .0) (h .1)) in
+        by-list t (h .0) (h .1) (judge (step t) 0 (start t) list) refl (omega (arith, j, start-left t (h .0), h .0 .threads))

@@ -1,1 +1,1 @@
-// The walk over complete lists: so far its definitions' meaning, in specs/.
+pub mod walk;

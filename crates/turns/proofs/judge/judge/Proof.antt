@@ -27,7 +27,7 @@ enum-known-taken c = search needs
 returns : tie.Need-returns
 returns c =
     let a = c .before .before .before .before .before .before .before .before .args in
-    judged-refused (a .list .now) (a .sheet .now) (a .table .now) _ (c .before .before .before .before .read-table .ensures) _ (c .before .taken .given .1)
+    judged-refused (a .table .now) _ (c .before .before .before .before .read-table .ensures) (a .list .now) (a .sheet .now) _ (c .before .taken .given .1)
 
 enum-told : tie.Need-enum-told
 enum-told c = search needs
@@ -42,7 +42,7 @@ returns-2 c =
     let t : Table = c .before .before .before .before .before .read-table .result .table in
     let needed : c .before .sheet-length .result ≡ sheetLength t = c .before .sheet-length .ensures in
     let short : length buffer < sheetLength t = omega (arith, needed, c .if1 .taken) in
-    ap (λ (n : ℕ). untouched (TooShort n) buffer) needed ∙ judged-short (a .list .now) buffer (a .table .now) _ (c .before .before .before .before .before .read-table .ensures) (c .before .before .enum-told .given .1) short
+    ap (λ (n : ℕ). untouched (TooShort n) buffer) needed ∙ judged-short (a .table .now) _ (c .before .before .before .before .before .read-table .ensures) (a .list .now) buffer (c .before .before .enum-told .given .1) short
 
 start-requires : tie.Need-start-requires
 start-requires c κs = search needs
@@ -67,7 +67,7 @@ returns-3 c =
     c .before .before .show .ensures
     ∙ ap (λ (x : Ran). showing t (x .end) (x .world) buffer) (c .before .before .before .before .before .run .ensures ∙ ap (λ (w : World). ranOf w (judge (step t) 0 w list)) (c .before .before .before .before .before .before .start .ensures))
     ∙ shows t (start t) buffer room (judge (step t) 0 (start t) list)
-    ∙ judged-shown list buffer (a .table .now) _ (c .before .before .before .before .before .before .before .before .before .before .before .before .read-table .ensures) (c .before .before .before .before .before .before .before .before .before .enum-told .given .1) room
+    ∙ judged-shown (a .table .now) _ (c .before .before .before .before .before .before .before .before .before .before .before .before .read-table .ensures) list buffer (c .before .before .before .before .before .before .before .before .before .enum-told .given .1) room
 
 pub judge-spec : {M : Type 1} → statement M
 judge-spec =

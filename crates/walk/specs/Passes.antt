@@ -1,0 +1,139 @@
+-- One pass over a list, and the list that is raised at its last mark.
+use mathlib.Core.Path.{_≡_, refl, sym, _∙_, ap, subst}
+use mathlib.Core.Logic.{_⊎_, inl, inr}
+use mathlib.Core.Bool.{true, false, false≢true}
+use mathlib.Core.Option.{some}
+use mathlib.Core.List.{List}
+use Prim.Native.Nat.{ℕ, suc, _+_, _-_, _≤_, _<_}
+use native.Mathlib.Numerals.{add-one}
+use native.Mathlib.Omega.{arith}
+use lib.ListN.{length, drop, getD}
+use borrow.Author.Tests.{lt-ltb, le-ltb}
+use Rattle.clocks.specs.Clock.{risen}
+use Rattle.lists.specs.Rules.{Outcome, refused, done, wants}
+use Rattle.lists.specs.Judge.{Judged}
+use Rattle.lists.specs.Greedy.{seek, larger, goOn, greedy, greedy-enough}
+use Rattle.lists.specs.Next.{Pivot, at, pass}
+use Rattle.lists.specs.Code.{pass-end, pass-refused, pass-done, pass-wants, judge-end, judge-refused, judge-last, judge-surplus, judge-wants}
+use Rattle.rules.specs.declared.answer.Answer.{Answer}
+use Rattle.rules.specs.declared.table.Table.{Table}
+use Rattle.rules.specs.declared.world.World.{World}
+use Rattle.rules.specs.Table.{opsOf}
+use Rattle.rules.specs.TableLaws.{ops-next}
+use Rattle.rules.specs.Turn.{start}
+use Rattle.rules.specs.Judge.{Verdict, step}
+use Rattle.rules.specs.Walk.{decisions, left}
+use Rattle.turns.specs.declared.run.End.the-variants as end
+use Rattle.turns.specs.Run.{isAllowed, ranOf}
+use Rattle.walk.specs.declared.walk.Mark.{Mark}
+use Rattle.walk.specs.Falling.{Good}
+use Rattle.walk.specs.Machine.{bounded, some-allowed, keeps, falls}
+use Rattle.walk.specs.Accepted.{start-good}
+use Rattle.walk.specs.Decided.{least-is}
+use Rattle.walk.specs.Says.{stageAt, pivotOf, Marked, Started, Placed, Passing, PassSays}
+
+-- a larger decision, or none
+module _ (m : Mark) (i : ℕ) (w : World) (d e : ℕ) (s : e ≡ seek (isAllowed (w .asked) (w .threads)) (6 - (d + 1)) (d + 1)) where
+  found : (table : Table) → e ≡ larger (step table) decisions w d
+  unfolding larger
+  found table = let t : e ≡ seek (isAllowed (w .asked) (w .threads)) (6 - suc d) (suc d) = rw add-one at s in t ∙ least-is table w (6 - suc d) (suc d)
+
+  pub better-found : e < 6 → Marked m i w d (record { found = true; at = i; world = w; decision = e })
+  better-found h = record {
+    is = λ table. rw (← found table, lt-ltb e 6 h);
+    from = inr (refl, refl);
+  }
+
+  pub better-kept : 6 ≤ e → Marked m i w d m
+  better-kept h = record { is = λ table. rw (← found table, le-ltb e 6 h); from = inl refl }
+
+module _ (table : Table) (begun : Started table) where
+  step-on : (k p : ℕ) → drop (risen 255 p) (opsOf table k) ≡ drop 1 (drop p (opsOf table k))
+  step-on k p = ops-next table k p (begun .within .ops)
+
+  pub passing-start : (l : List ℕ) (m : Mark) → m .found ≡ false → Passing table l (start table) m 0
+  passing-start l m e = record {
+    in-list = omega arith;
+    good = start-good table (begun .within) (begun .some);
+    few = omega arith;
+    judged = refl;
+    pivot = rw e;
+    placed = λ f. absurd (false≢true (sym e ∙ f));
+  }
+
+  module _ (l : List ℕ) (w : World) (m : Mark) (i : ℕ) (p : Passing table l w m i) where
+    pub passing-end : length l ≤ i → PassSays table l (record { end = end.Unfinished; mark = m })
+    unfolding ranOf
+    passing-end h = record {
+      ends = sym (ap (λ (j : Judged World Verdict). ranOf (start table) j .end) (p .judged ∙ judge-end (step table) w l i h));
+      pivot = sym (p .pivot ∙ pass-end (step table) decisions (left table) w l i (pivotOf m) h);
+      placed = p .placed;
+    }
+
+    pub passing-refused : i < length l → step table w (getD l i 0) ≡ refused → PassSays table l (record { end = end.NotAllowed i; mark = m })
+    unfolding ranOf
+    passing-refused h e = record {
+      ends = sym (ap (λ (j : Judged World Verdict). ranOf (start table) j .end) (p .judged ∙ judge-refused (step table) w l i h e));
+      pivot = sym (p .pivot ∙ pass-refused (step table) decisions (left table) w l i (pivotOf m) h e);
+      placed = p .placed;
+    }
+
+    module _ (b : Mark) (x : Marked m i w (getD l i 0) b) (h : i < length l) where
+      there : b .found ≡ true → Placed table l (b .at) (b .world)
+      there = go (x .from)
+        where
+          here : Placed table l i w
+          here = record { inside = h; good = p .good; few = p .few }
+
+          go : (b ≡ m) ⊎ ((b .at ≡ i) × (b .world ≡ w)) → b .found ≡ true → Placed table l (b .at) (b .world)
+          go (inl e) = subst (λ (y : Mark). y .found ≡ true → Placed table l (y .at) (y .world)) (sym e) (p .placed)
+          go (inr e) = λ f. subst (λ (k : ℕ). Placed table l k (b .world)) (sym (e .0)) (subst (Placed table l i) (sym (e .1)) here)
+
+      pub passing-ends : (a : Answer) (v : World) → step table w (getD l i 0) ≡ stageAt (end.Verdict a) v → i + 1 ≡ length l → PassSays table l (record { end = end.Verdict a; mark = b })
+      unfolding ranOf
+      passing-ends a v e q = record {
+        ends = sym (ap (λ (j : Judged World Verdict). ranOf (start table) j .end) (p .judged ∙ judge-last (step table) w l i _ q e));
+        pivot = x .is table ∙ sym (p .pivot ∙ pass-done (step table) decisions (left table) w l i (pivotOf m) _ h e);
+        placed = there;
+      }
+
+      pub passing-surplus : (a : Answer) (v : World) → step table w (getD l i 0) ≡ stageAt (end.Verdict a) v → (i + 1 ≡ length l → ⊥)
+          → PassSays table l (record { end = end.Surplus (i + 1); mark = b })
+      unfolding ranOf
+      passing-surplus a v e q = record {
+        ends = sym (ap (λ (j : Judged World Verdict). ranOf (start table) j .end) (p .judged ∙ judge-surplus (step table) w l i _ (omega arith) e));
+        pivot = x .is table ∙ sym (p .pivot ∙ pass-done (step table) decisions (left table) w l i (pivotOf m) _ h e);
+        placed = there;
+      }
+
+      pub passing-wants : (v : World) → step table w (getD l i 0) ≡ wants v → Passing table l v b (i + 1)
+      passing-wants v e =
+          let f = falls table step-on w (getD l i 0) v (p .good) e in
+          let o = p .few in
+          record {
+            in-list = omega (arith, h);
+            good = keeps table step-on w (getD l i 0) v (p .good) e;
+            few = omega (arith, f, o);
+            judged = p .judged ∙ judge-wants (step table) w l i v h e;
+            pivot =
+                p .pivot
+                ∙ pass-wants (step table) decisions (left table) w l i (pivotOf m) v h e
+                ∙ ap (λ (z : Pivot World). pass (step table) decisions (left table) z (i + 1) v (drop (i + 1) l)) (sym (x .is table));
+            placed = there;
+          }
+
+  -- more decisions than are left change nothing
+  pub start-enough : (n : ℕ) → left table (start table) < n → greedy (step table) decisions n (start table) ≡ greedy (step table) decisions (suc (left table (start table))) (start table)
+  start-enough n h =
+      greedy-enough (step table) decisions (left table) (Good table) (bounded table step-on) (some-allowed table step-on) (keeps table step-on) (falls table step-on) n (suc (left table (start table))) (start table) (start-good table (begun .within) (begun .some)) h (omega arith)
+
+  pub raised-enough : (w : World) (d n : ℕ) → Good table w → left table w ≤ n
+      → goOn (step table w d) (greedy (step table) decisions n) ≡ goOn (step table w d) (greedy (step table) decisions (left table w))
+  raised-enough w d n g h = go (step table w d) refl
+    where
+      go : (o : Outcome World Verdict) → step table w d ≡ o → goOn o (greedy (step table) decisions n) ≡ goOn o (greedy (step table) decisions (left table w))
+      go refused e = refl
+      go (done v) e = refl
+      go (wants v) e =
+          let f = falls table step-on w d v g e in
+          greedy-enough (step table) decisions (left table) (Good table) (bounded table step-on) (some-allowed table step-on) (keeps table step-on) (falls table step-on) n (left table w) v (keeps table step-on w d v g e) (omega (arith, f, h)) f

@@ -1,0 +1,87 @@
+-- What the code of the walk carries along, as the definitions of the walk have it.
+use mathlib.Core.Path.{_≡_}
+use mathlib.Core.Logic.{_⊎_}
+use mathlib.Core.Bool.{Bool, true, false, cond}
+use mathlib.Core.List.{List, _++_}
+use Prim.Native.Nat.{ℕ, _+_, _≤_, _<_}
+use lib.ListN.{length, take, drop}
+use Rattle.lists.specs.Rules.{Outcome, refused, done, wants}
+use Rattle.lists.specs.Judge.{judge}
+use Rattle.lists.specs.Next.{Pivot, nowhere, at, raised, better, pass}
+use Rattle.lists.specs.Code.{Carried}
+use Rattle.rules.specs.declared.table.Table.{Table}
+use Rattle.rules.specs.declared.world.World.{World}
+use Rattle.rules.specs.TableLaws.{Within}
+use Rattle.rules.specs.Turn.{start}
+use Rattle.rules.specs.Judge.{Verdict, step}
+use Rattle.rules.specs.Walk.{decisions, left}
+use Rattle.turns.specs.declared.run.End.{End}
+use Rattle.turns.specs.declared.run.End.the-variants as end
+use Rattle.turns.specs.declared.run.Ran.{Ran}
+use Rattle.turns.specs.Run.{ranOf}
+use Rattle.walk.specs.declared.walk.Progress.{Progress}
+use Rattle.walk.specs.declared.walk.Mark.{Mark}
+use Rattle.walk.specs.declared.walk.Passed.{Passed}
+use Rattle.walk.specs.Falling.{Good}
+
+-- a run of one decision is its outcome
+abbrev pub stageAt : End → World → Outcome World Verdict
+stageAt (end.NotAllowed i) w = refused
+stageAt (end.Surplus i) w = refused
+stageAt end.Unfinished w = wants w
+stageAt (end.Verdict a) w = done (record { answer = a; world = w })
+
+abbrev pub stageOf : Ran → Outcome World Verdict
+stageOf r = stageAt (r .end) (r .world)
+
+abbrev pub isOver : End → Bool
+isOver (end.NotAllowed i) = true
+isOver (end.Surplus i) = true
+isOver end.Unfinished = false
+isOver (end.Verdict a) = true
+
+-- from p and the bytes l to r and the bytes m, by n decisions at most
+abbrev pub Completed : Table → ℕ → Progress → List ℕ → Progress → List ℕ → Type 0
+Completed table n p l r m = Carried (step table) decisions n (stageOf (p .ran)) (p .at) l (stageOf (r .ran)) (r .at) m
+
+-- the pivot that a mark is
+abbrev pub pivotOf : Mark → Pivot World
+pivotOf m = cond (m .found) (at (m .at) (m .world) (m .decision)) nowhere
+
+-- the mark after the decision d at index i of a list
+pub record Marked (m : Mark) (i : ℕ) (w : World) (d : ℕ) (r : Mark) : Type 0 where
+  pub is : (table : Table) → pivotOf r ≡ better (step table) decisions (left table) (pivotOf m) i w d
+  pub from : (r ≡ m) ⊎ ((r .at ≡ i) × (r .world ≡ w))
+
+-- the table was accepted
+pub record Started (table : Table) : Type 0 where
+  pub within : Within table
+  pub some : 0 < table .«thread_count»
+
+-- what is known of the place of a mark in a list
+pub record Placed (table : Table) (l : List ℕ) (i : ℕ) (w : World) : Type 0 where
+  pub inside : i < length l
+  pub good : Good table w
+  pub few : i + left table w ≤ left table (start table)
+
+-- the pass over l, at index i
+pub record Passing (table : Table) (l : List ℕ) (w : World) (m : Mark) (i : ℕ) : Type 0 where
+  pub in-list : i ≤ length l
+  pub good : Good table w
+  pub few : i + left table w ≤ left table (start table)
+  pub judged : judge (step table) 0 (start table) l ≡ judge (step table) i w (drop i l)
+  pub pivot : pass (step table) decisions (left table) nowhere 0 (start table) l ≡ pass (step table) decisions (left table) (pivotOf m) i w (drop i l)
+  pub placed : m .found ≡ true → Placed table l (m .at) (m .world)
+
+pub record PassSays (table : Table) (l : List ℕ) (r : Passed) : Type 0 where
+  pub ends : r .end ≡ ranOf (start table) (judge (step table) 0 (start table) l) .end
+  pub pivot : pivotOf (r .mark) ≡ pass (step table) decisions (left table) nowhere 0 (start table) l
+  pub placed : r .mark .found ≡ true → Placed table l (r .mark .at) (r .mark .world)
+
+-- a list can be raised at a mark
+pub record Raisable (table : Table) (l : List ℕ) (m : Mark) : Type 0 where
+  pub started : Started table
+  pub placed : Placed table l (m .at) (m .world)
+
+abbrev pub raisedTo : Table → List ℕ → Mark → List ℕ
+raisedTo table l m = take (m .at) l ++ raised (step table) decisions (left table) (m .world) (m .decision)
