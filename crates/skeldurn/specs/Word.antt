@@ -1,5 +1,5 @@
 -- An answer in one word: "bits 0 to 7 number, 8 to 23 place, 24 to 31 thread, 32 to 39 position, 40 to 47 object, 48 to 63 other".
-use mathlib.Core.Path.{_≡_}
+use mathlib.Core.Path.{_≡_, _∙_, ap}
 use Prim.Native.Nat.{ℕ, _+_, _*_, _/_, _%_, _<_}
 use native.Mathlib.Omega.{arith}
 use Rattle.rules.specs.declared.answer.Numbers.{Numbers}
@@ -53,3 +53,7 @@ module _ (n : Numbers) (f : Fits n) where
   pub nothing-lost : numbersIn (wordOf n) ≡ n
   nothing-lost =
       λ i. record { number = number-kept i; place = place-kept i; thread = thread-kept i; position = position-kept i; object = object-kept i; other = other-kept i }
+
+  -- so an answer can be had again from its word
+  pub told : (a : Numbers) → n ≡ a → (word : ℕ) → word ≡ wordOf n → (word ≡ wordOf a) × (numbersIn word ≡ a)
+  told a same word e = (e ∙ ap wordOf same, ap numbersIn e ∙ nothing-lost ∙ same)

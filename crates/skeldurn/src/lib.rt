@@ -50,11 +50,11 @@ pub extern "C" fn skeldurn_first(table: &[u8], list: &mut [u8]) -> u64
 
 // The smallest complete list above a complete one.
 #[no_mangle]
-pub extern "C" fn skeldurn_next(table: &[u8], list: &[u8], next_list: &mut [u8]) -> u64
-    ensures { λ r. ⌜ r ≡ wordOf (numbersOf (nextOf (now (table .entry)) (now (list .entry)) (now (next_list .entry)) .answer)) ⌝ }
-    ensures { λ r. ⌜ numbersIn r ≡ numbersOf (nextOf (now (table .entry)) (now (list .entry)) (now (next_list .entry)) .answer) ⌝ }
-    ensures { λ _. ⌜ now (next_list .exit) ≡ nextOf (now (table .entry)) (now (list .entry)) (now (next_list .entry)) .buffer ⌝ }
+pub extern "C" fn skeldurn_next(table: &[u8], list: &[u8], out: &mut [u8]) -> u64
+    ensures { λ r. ⌜ r ≡ wordOf (numbersOf (nextOf (now (table .entry)) (now (list .entry)) (now (out .entry)) .answer)) ⌝ }
+    ensures { λ r. ⌜ numbersIn r ≡ numbersOf (nextOf (now (table .entry)) (now (list .entry)) (now (out .entry)) .answer) ⌝ }
+    ensures { λ _. ⌜ now (out .exit) ≡ nextOf (now (table .entry)) (now (list .entry)) (now (out .entry)) .buffer ⌝ }
 {
-    let answer = next(table, list, next_list);
+    let answer = next(table, list, out);
     word(numbers(answer))
 }

@@ -1,4 +1,4 @@
--- `skeldurn_judge` meets its contract: the judge's answer in one word, and its buffer.
+-- `skeldurn_judge` meets its contract: the answer in one word, and its buffer.
 use mathlib.Core.Path.{_≡_, sym, _∙_, ap, subst}
 use Prim.Native.Nat.{_≤_}
 use native.Mathlib.Omega.{arith}
@@ -6,15 +6,10 @@ use Rattle.rules.specs.declared.answer.Numbers.{Numbers}
 use Rattle.rules.specs.Answer.{numbersOf}
 use Rattle.rules.specs.Judge.{Given, judgeOf}
 use Rattle.walk.specs.Places.{judge-place}
-use Rattle.skeldurn.specs.Word.{wordOf, numbersIn, Fits, nothing-lost}
+use Rattle.skeldurn.specs.Word.{Fits, told}
 use borrow.Author.Needs.{needs}
 use Rattle.skeldurn.proofs.skeldurn_judge.Statement.{statement}
 use Rattle.skeldurn.proofs.skeldurn_judge.Tie as tie
-use Rattle.skeldurn.proofs.skeldurn_judge.Reads as reads
-use Rattle.skeldurn.proofs.skeldurn_judge.Lts as lts
-use Rattle.skeldurn.proofs.word.Reads as word-reads
-use Rattle.tables.proofs.answer.numbers.Reads as numbers-reads
-use Rattle.turns.proofs.judge.judge.Reads as judge-reads
 
 judge-requires : tie.Need-judge-requires
 judge-requires c κs = search needs
@@ -36,7 +31,8 @@ returns c =
     let same : n ≡ numbersOf (judgeOf (a .table .now) (a .list .now) (a .sheet .now) .answer) = c .before .numbers .ensures ∙ ap (λ (g : Given). numbersOf (g .answer)) j in
     let small : n .place ≤ 1766 = subst (λ (m : Numbers). m .place ≤ 1766) (sym same) (judge-place (a .table .now) (a .list .now) (a .sheet .now)) in
     let fits : Fits n = record { number = search needs; place = omega (arith, small); thread = search needs; position = search needs; object = search needs } in
-    (c .word .ensures ∙ ap wordOf same, (ap numbersIn (c .word .ensures) ∙ nothing-lost n fits ∙ same, ap (λ (g : Given). g .buffer) j))
+    let word = told n fits _ same _ (c .word .ensures) in
+    (word .0, (word .1, ap (λ (g : Given). g .buffer) j))
 
 pub skeldurn-judge-spec : {M : Type 1} → statement M
 skeldurn-judge-spec =

@@ -1,0 +1,40 @@
+-- `skeldurn_next` meets its contract: the answer in one word, and its buffer.
+use mathlib.Core.Path.{_≡_, sym, _∙_, ap, subst}
+use Prim.Native.Nat.{_≤_}
+use native.Mathlib.Omega.{arith}
+use Rattle.rules.specs.declared.answer.Numbers.{Numbers}
+use Rattle.rules.specs.Answer.{numbersOf}
+use Rattle.rules.specs.Judge.{Given}
+use Rattle.rules.specs.Walk.{nextOf}
+use Rattle.walk.specs.Places.{next-place}
+use Rattle.skeldurn.specs.Word.{Fits, told}
+use borrow.Author.Needs.{needs}
+use Rattle.skeldurn.proofs.skeldurn_next.Statement.{statement}
+use Rattle.skeldurn.proofs.skeldurn_next.Tie as tie
+
+next-requires : tie.Need-next-requires
+next-requires c κs = search needs
+
+numbers-requires : tie.Need-numbers-requires
+numbers-requires c κs = search needs
+
+word-requires : tie.Need-word-requires
+word-requires c κs = search needs
+
+same-length : tie.Need-same-length
+same-length c = search needs
+
+returns : tie.Need-returns
+returns c =
+    let a = c .before .before .before .before .before .before .before .before .before .args in
+    let j = c .before .before .before .before .next .ensures in
+    let n : Numbers = c .before .numbers .result in
+    let same : n ≡ numbersOf (nextOf (a .table .now) (a .list .now) (a .out .now) .answer) = c .before .numbers .ensures ∙ ap (λ (g : Given). numbersOf (g .answer)) j in
+    let small : n .place ≤ 1766 = subst (λ (m : Numbers). m .place ≤ 1766) (sym same) (next-place (a .table .now) (a .list .now) (a .out .now)) in
+    let fits : Fits n = record { number = search needs; place = omega (arith, small); thread = search needs; position = search needs; object = search needs } in
+    let word = told n fits _ same _ (c .word .ensures) in
+    (word .0, (word .1, ap (λ (g : Given). g .buffer) j))
+
+pub skeldurn-next-spec : {M : Type 1} → statement M
+skeldurn-next-spec =
+    tie.close (tie.spec next-requires numbers-requires word-requires same-length returns)
