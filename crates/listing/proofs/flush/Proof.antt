@@ -1,0 +1,26 @@
+-- `flush` is safe.
+use mathlib.Core.Path.{sym}
+use native.Mathlib.Omega.{arith}
+use lib.Seq.{length-take-le}
+use borrow.Author.Needs.{needs}
+use borrow.Author.Needs.{needs}
+use Rattle.listing.proofs.flush.Statement.{statement}
+use Rattle.listing.proofs.flush.Tie as tie
+use Rattle.listing.proofs.flush.Reads as reads
+use Rattle.listing.proofs.flush.Lts as lts
+use Rattle.io.proofs.write_all.Reads as write-all-reads
+
+returns : tie.Need-returns
+returns c = search needs
+
+slice-aggregate-write-all : tie.Need-slice-aggregate-write-all
+slice-aggregate-write-all c = sym (length-take-le (c .before .before .before .args .used) (c .before .before .before .args .out .now) (omega (arith, c .before .if1 .left)))
+
+write-all-requires : tie.Need-write-all-requires
+write-all-requires c κs = search needs
+
+returns-2 : tie.Need-returns-2
+returns-2 c = search needs
+
+pub flush-spec : {M : Type 1} → statement M
+flush-spec = tie.close (tie.spec returns slice-aggregate-write-all write-all-requires returns-2)

@@ -1,0 +1,120 @@
+-- `go_through` is safe and ends: the runs are counted down.
+use mathlib.Core.Path.{_≡_, sym}
+use native.Mathlib.Omega.{arith}
+use lib.ListN.{length}
+use lib.Seq.{length-take-le}
+use borrow.Author.Needs.{needs}
+use Rattle.listing.proofs.go_through.Statement.{statement}
+use Rattle.listing.proofs.go_through.Tie as tie
+use Rattle.listing.proofs.go_through.Reads as reads
+use Rattle.listing.proofs.go_through.Lts as lts
+use Rattle.listing.proofs.add_line.Reads as add-line-reads
+use Rattle.listing.proofs.at_most.Reads as at-most-reads
+use Rattle.listing.proofs.flush.Reads as flush-reads
+use Rattle.listing.proofs.make_room.Reads as make-room-reads
+use Rattle.walk.proofs.walk.next.Reads as next-reads
+
+abbrev Inv-loop : tie.InvT-loop
+Inv-loop table count to out₀ list₀ k₀ used₀ turns₀ out list k used turns = (length out ≡ 65536) × (length list ≡ 584)
+
+abbrev μ-loop : tie.MeasureT-loop
+μ-loop table count to out₀ list₀ k₀ used₀ turns₀ out list k used turns = turns
+
+loop-holds : tie.Need-loop-holds Inv-loop μ-loop
+loop-holds c = search needs
+
+slice-aggregate-make-room : tie.Need-slice-aggregate-make-room Inv-loop μ-loop
+slice-aggregate-make-room c = search needs
+
+make-room-requires : tie.Need-make-room-requires Inv-loop μ-loop
+make-room-requires c κs = search needs
+
+enum-known-at : tie.Need-enum-known-at Inv-loop μ-loop
+enum-known-at c = search needs
+
+enum-told : tie.Need-enum-told Inv-loop μ-loop
+enum-told c = search needs
+
+returns : tie.Need-returns Inv-loop μ-loop
+returns c = search needs
+
+at-most-requires : tie.Need-at-most-requires Inv-loop μ-loop
+at-most-requires c κs = search needs
+
+array-share-prefix-list : tie.Need-array-share-prefix-list Inv-loop μ-loop
+array-share-prefix-list c = search needs
+
+slice-aggregate-add-line : tie.Need-slice-aggregate-add-line Inv-loop μ-loop
+slice-aggregate-add-line c = sym (length-take-le _ _ (array-share-prefix-list (c .before)))
+
+slice-aggregate-add-line-2 : tie.Need-slice-aggregate-add-line-2 Inv-loop μ-loop
+slice-aggregate-add-line-2 c = search needs
+
+add-line-requires : tie.Need-add-line-requires Inv-loop μ-loop
+add-line-requires c κs = let h = length-take-le (c .before .before .at-most .result) (c .before .before .before .before .before .before .before .before .before .loop .list) (array-share-prefix-list (c .before .before)) in let m = c .before .before .at-most .ensures in omega (arith, h, m)
+
+array-share-prefix-list-2 : tie.Need-array-share-prefix-list-2 Inv-loop μ-loop
+array-share-prefix-list-2 c = search needs
+
+slice-aggregate-next : tie.Need-slice-aggregate-next Inv-loop μ-loop
+slice-aggregate-next c = sym (length-take-le _ _ (array-share-prefix-list-2 (c .before)))
+
+slice-aggregate-next-2 : tie.Need-slice-aggregate-next-2 Inv-loop μ-loop
+slice-aggregate-next-2 c = search needs
+
+next-requires : tie.Need-next-requires Inv-loop μ-loop
+next-requires c κs = search needs
+
+enum-known-m : tie.Need-enum-known-m Inv-loop μ-loop
+enum-known-m c = search needs
+
+slice-aggregate-flush : tie.Need-slice-aggregate-flush Inv-loop μ-loop
+slice-aggregate-flush c = search needs
+
+flush-requires : tie.Need-flush-requires Inv-loop μ-loop
+flush-requires c κs = search needs
+
+returns-2 : tie.Need-returns-2 Inv-loop μ-loop
+returns-2 c = search needs
+
+sub-turns : tie.Need-sub-turns Inv-loop μ-loop
+sub-turns c = search needs
+
+loop-less : tie.Need-loop-less Inv-loop μ-loop
+loop-less c = search needs
+
+loop-again : tie.Need-loop-again Inv-loop μ-loop
+loop-again c = search needs
+
+returns-3 : tie.Need-returns-3 Inv-loop μ-loop
+returns-3 c = search needs
+
+pub go-through-spec : {M : Type 1} → statement M
+go-through-spec =
+    tie.close
+    (tie.spec
+    Inv-loop
+    μ-loop
+    loop-holds
+    slice-aggregate-make-room
+    make-room-requires
+    enum-known-at
+    enum-told
+    returns
+    at-most-requires
+    array-share-prefix-list
+    slice-aggregate-add-line
+    slice-aggregate-add-line-2
+    add-line-requires
+    array-share-prefix-list-2
+    slice-aggregate-next
+    slice-aggregate-next-2
+    next-requires
+    enum-known-m
+    slice-aggregate-flush
+    flush-requires
+    returns-2
+    sub-turns
+    loop-less
+    loop-again
+    returns-3)

@@ -1,0 +1,23 @@
+-- `line::hex_digit` meets its contract.
+use Rattle.listing.specs.Line.{digit-is}
+use borrow.Author.Needs.{needs}
+use borrow.Author.Needs.{needs}
+use Rattle.listing.proofs.line.hex_digit.Statement.{statement}
+use Rattle.listing.proofs.line.hex_digit.Tie as tie
+use Rattle.listing.proofs.line.hex_digit.Reads as reads
+use Rattle.listing.proofs.line.hex_digit.Lts as lts
+
+add-result : tie.Need-add-result
+add-result c = search needs
+
+add-result-2 : tie.Need-add-result-2
+add-result-2 c = search needs
+
+returns : tie.Need-returns
+returns c = digit-is (c .before .args .n) .0 (c .if1 .taken)
+
+returns-2 : tie.Need-returns-2
+returns-2 c = digit-is (c .before .args .n) .1 (c .if1 .left)
+
+pub hex-digit-spec : {M : Type 1} → statement M
+hex-digit-spec = tie.close (tie.spec add-result add-result-2 returns returns-2)
