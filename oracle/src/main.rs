@@ -33,6 +33,7 @@ mod plain;
 mod random;
 mod rt;
 mod speed;
+mod stack;
 mod table;
 mod text;
 
@@ -62,6 +63,7 @@ const USAGE: &str = "modes:
   replay                         such lines on standard input, said again
   speed [COUNT]                  decisions a second
   speed walk [CAP]               runs a second, by first and next
+  stack KB                       the archive's calls within that much stack
 TABLE and LIST are hexadecimal; \"\" is the empty one.";
 
 const ENOUGH_ROOM: usize = 1766;
@@ -112,6 +114,7 @@ fn run(words: &[&str]) -> Option<bool> {
         ["minimal"] => minimal::minimal(),
         ["replay"] => return Some(emit::replay()),
         ["emit", seed, count] => emit::emit(seed.parse().ok()?, count.parse().ok()?),
+        ["stack", kilobytes] => return Some(stack::within(kilobytes.parse().ok()?)),
         ["speed", "walk", rest @ ..] => speed::walk(number_or(rest, 1000)?),
         ["speed", rest @ ..] => speed::judge(number_or(rest, 2000)?),
         _ => return None,

@@ -7,6 +7,7 @@ use line::put_line;
 use rules::answer::Answer;
 use tables::answer::numbers;
 use turns::judge::judge;
+use walk::walk::at_most;
 use walk::walk::first;
 use walk::walk::next;
 
@@ -20,12 +21,6 @@ const SHEET: usize = 1766;
 const OUT: usize = 65536;
 // More than the longest line.
 const LINE: usize = 2048;
-
-fn at_most(n: usize, most: usize) -> usize
-    ensures { λ r. ⌜ r ≤ most ⌝ }
-{
-    if n < most { n } else { most }
-}
 
 // Nothing says that an input ends, so the reads are counted down, from a number that no run uses up.
 fn pass_over(from: i32) {

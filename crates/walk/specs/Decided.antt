@@ -2,7 +2,7 @@
 use mathlib.Core.Path.{_≡_, refl, sym, _∙_, subst}
 use mathlib.Core.Bool.{Bool, true, false}
 use mathlib.Core.List.{List, [], _∷_}
-use Prim.Native.Nat.{ℕ, _+_, _<_}
+use Prim.Native.Nat.{ℕ, _+_, _-_, _≤_, _<_, min}
 use native.Mathlib.Omega.{arith}
 use lib.Dec.{eqb, leb}
 use lib.ListN.{length, getD, set}
@@ -117,10 +117,26 @@ takes-one table p l r d e h s o = go (p .ran .end) e
 pub completed-as : (table : Table) (k n : ℕ) (p : Progress) (l : List ℕ) (r : Progress) (m : List ℕ) → k ≡ n → Completed table k p l r m → Completed table n p l r m
 completed-as table k n p l r m e x = subst (λ (j : ℕ). Completed table j p l r m) e x
 
-pub completed-none : (table : Table) (n : ℕ) (p : Progress) (l : List ℕ) → n ≡ 0 → Completed table n p l p l
-completed-none table n p l e = completed-as table 0 n p l p l (sym e) (carried-none (step table) decisions (stageOf (p .ran)) (p .at) l)
+-- a completion of n decisions in parts, of which `left` are left
+module _ (table : Table) (n left : ℕ) (p : Progress) (l : List ℕ) (q : Progress) (m : List ℕ) where
+  pub none-yet : left ≡ n → q ≡ p → m ≡ l → Completed table (n - left) p l q m
+  none-yet e f g =
+      subst (λ (j : ℕ). Completed table j p l q m) (let z : 0 ≡ n - left = omega (arith, e) in z)
+      (rw (f, g) (carried-none (step table) decisions (stageOf (p .ran)) (p .at) l))
 
-pub completed-two : (table : Table) (a b n : ℕ) (p : Progress) (l : List ℕ) (q : Progress) (m : List ℕ) (r : Progress) (k : List ℕ) → a + b ≡ n
-    → Completed table a p l q m → Completed table b q m r k → Completed table n p l r k
-completed-two table a b n p l q m r k e x y =
-    carried-two (step table) decisions a b n (stageOf (p .ran)) (p .at) l (stageOf (q .ran)) (q .at) m (stageOf (r .ran)) (r .at) k e x y
+  module _ (few : left ≤ n) (x : Completed table (n - left) p l q m) where
+    then : (k : ℕ) (r : Progress) (o : List ℕ) → k ≤ left → Completed table k q m r o → Completed table (n - (left - k)) p l r o
+    then k r o h y =
+        carried-two (step table) decisions (n - left) k (n - (left - k)) (stageOf (p .ran)) (p .at) l (stageOf (q .ran)) (q .at) m (stageOf (r .ran)) (r .at) o (omega (arith, few, h)) x y
+
+    pub one-part-more : (part k : ℕ) (r : Progress) (o : List ℕ) → k ≡ min part left → Completed table k q m r o → Completed table (n - (left - k)) p l r o
+    one-part-more part k r o e y = then k r o (omega (arith, e)) y
+
+    pub all-parts : left ≡ 0 → Completed table n p l q m
+    all-parts e = completed-as table (n - left) n p l q m (omega (arith, e)) x
+
+    pub over-before : isOver (q .ran .end) ≡ true → Completed table n p l q m
+    over-before e = completed-as table (n - (left - left)) n p l q m (omega arith) (then left q m (omega arith) (stays table left q m e))
+
+    pub part-room : (part k : ℕ) → k ≡ min part left → p .at + n ≤ length l → q .at + k ≤ length m
+    part-room part k e h = omega (arith, few, e, h, x .high, x .size)

@@ -1,7 +1,7 @@
 // Every run of a table, in order: the smallest complete list, and the smallest one above another.
 ghost use mathlib.Core.Path.{_≡_};
 ghost use mathlib.Core.List.{_++_};
-ghost use Prim.Native.Nat.{_+_, _-_, _≤_, _<_};
+ghost use Prim.Native.Nat.{_+_, _-_, _≤_, _<_, min};
 ghost use lib.ListN.{length, take, drop};
 ghost use Rattle.lists.specs.Greedy.{seek};
 ghost use Rattle.rules.specs.Judge.{step};
@@ -99,25 +99,34 @@ fn one(table: Table, p: Progress, list: &mut [u8]) -> Progress
     }
 }
 
-// At most n more decisions. It calls itself for each half, so that it is as deep as n has bits.
+pub fn at_most(n: usize, most: usize) -> usize
+    ensures { λ r. ⌜ r ≡ min n most ⌝ }
+{
+    if n < most { n } else { most }
+}
+
+// At most n more decisions. It calls itself for a sixteenth of them at a time, so that it is never more than four calls deep.
 fn complete(table: Table, p: Progress, list: &mut [u8], n: usize) -> Progress
     requires { ⌜ p .at + n ≤ length (now list) ⌝ }
     ensures { λ r. ⌜ Completed table n p (now (list .entry)) r (now (list .exit)) ⌝ }
 {
-    if n == 0 {
-        return p;
-    }
     if n == 1 {
         return one(table, p, list);
     }
-    let h = n / 2;
-    let q = complete(table, p, list, h);
-    let ran = q.ran;
-    let end = ran.end;
-    if is_over(end) {
-        return q;
+    let part = n / 16 + 1;
+    let mut q = p;
+    let mut left = n;
+    while left > 0 {
+        let ran = q.ran;
+        let end = ran.end;
+        if is_over(end) {
+            return q;
+        }
+        let k = at_most(part, left);
+        q = complete(table, q, list, k);
+        left -= k;
     }
-    complete(table, q, list, n - h)
+    q
 }
 
 // The first n bytes of `from` into `list`.

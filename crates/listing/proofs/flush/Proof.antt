@@ -6,9 +6,6 @@ use borrow.Author.Needs.{needs}
 use borrow.Author.Needs.{needs}
 use Rattle.listing.proofs.flush.Statement.{statement}
 use Rattle.listing.proofs.flush.Tie as tie
-use Rattle.listing.proofs.flush.Reads as reads
-use Rattle.listing.proofs.flush.Lts as lts
-use Rattle.io.proofs.write_all.Reads as write-all-reads
 
 returns : tie.Need-returns
 returns c = search needs

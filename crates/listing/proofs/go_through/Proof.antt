@@ -6,13 +6,6 @@ use lib.Seq.{length-take-le}
 use borrow.Author.Needs.{needs}
 use Rattle.listing.proofs.go_through.Statement.{statement}
 use Rattle.listing.proofs.go_through.Tie as tie
-use Rattle.listing.proofs.go_through.Reads as reads
-use Rattle.listing.proofs.go_through.Lts as lts
-use Rattle.listing.proofs.add_line.Reads as add-line-reads
-use Rattle.listing.proofs.at_most.Reads as at-most-reads
-use Rattle.listing.proofs.flush.Reads as flush-reads
-use Rattle.listing.proofs.make_room.Reads as make-room-reads
-use Rattle.walk.proofs.walk.next.Reads as next-reads
 
 abbrev Inv-loop : tie.InvT-loop
 Inv-loop table count to out₀ list₀ k₀ used₀ turns₀ out list k used turns = (length out ≡ 65536) × (length list ≡ 584)

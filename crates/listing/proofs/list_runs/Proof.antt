@@ -5,12 +5,6 @@ use borrow.Author.Needs.{needs}
 use borrow.Author.Needs.{needs}
 use Rattle.listing.proofs.list_runs.Statement.{statement}
 use Rattle.listing.proofs.list_runs.Tie as tie
-use Rattle.listing.proofs.list_runs.Reads as reads
-use Rattle.listing.proofs.list_runs.Lts as lts
-use Rattle.listing.proofs.go_through.Reads as go-through-reads
-use Rattle.listing.proofs.read_input.Reads as read-input-reads
-use Rattle.listing.proofs.say_refused.Reads as say-refused-reads
-use Rattle.walk.proofs.walk.first.Reads as first-reads
 
 slice-aggregate-read-input : tie.Need-slice-aggregate-read-input
 slice-aggregate-read-input c = search needs

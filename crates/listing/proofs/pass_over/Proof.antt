@@ -2,10 +2,6 @@
 use borrow.Author.Needs.{needs}
 use Rattle.listing.proofs.pass_over.Statement.{statement}
 use Rattle.listing.proofs.pass_over.Tie as tie
-use Rattle.listing.proofs.pass_over.Reads as reads
-use Rattle.listing.proofs.pass_over.Lts as lts
-use Rattle.io.proofs.buffer.Reads as buffer-reads
-use Rattle.libc.proofs.read.Reads as read-reads
 
 abbrev Inv-loop : tie.InvT-loop
 Inv-loop from turns₀ turns = Unit {0}

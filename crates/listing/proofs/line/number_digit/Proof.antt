@@ -4,8 +4,6 @@ use borrow.Author.Needs.{needs}
 use borrow.Author.Needs.{needs}
 use Rattle.listing.proofs.line.number_digit.Statement.{statement}
 use Rattle.listing.proofs.line.number_digit.Tie as tie
-use Rattle.listing.proofs.line.number_digit.Reads as reads
-use Rattle.listing.proofs.line.number_digit.Lts as lts
 
 add-result : tie.Need-add-result
 add-result c = search needs

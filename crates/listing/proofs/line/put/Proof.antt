@@ -5,8 +5,6 @@ use borrow.Author.Needs.{needs}
 use borrow.Author.Needs.{needs}
 use Rattle.listing.proofs.line.put.Statement.{statement}
 use Rattle.listing.proofs.line.put.Tie as tie
-use Rattle.listing.proofs.line.put.Reads as reads
-use Rattle.listing.proofs.line.put.Lts as lts
 
 slice-write-out : tie.Need-slice-write-out
 slice-write-out c = search needs

@@ -4,10 +4,6 @@ use borrow.Author.Needs.{needs}
 use borrow.Author.Needs.{needs}
 use Rattle.listing.proofs.line.put_decision.Statement.{statement}
 use Rattle.listing.proofs.line.put_decision.Tie as tie
-use Rattle.listing.proofs.line.put_decision.Reads as reads
-use Rattle.listing.proofs.line.put_decision.Lts as lts
-use Rattle.listing.proofs.line.hex_digit.Reads as hex-digit-reads
-use Rattle.listing.proofs.line.put.Reads as put-reads
 
 put-requires : tie.Need-put-requires
 put-requires c κs = search needs

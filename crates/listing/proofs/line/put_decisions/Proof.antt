@@ -11,9 +11,6 @@ use Rattle.listing.specs.Line.{decisionBytes, all-filled}
 use borrow.Author.Needs.{needs}
 use Rattle.listing.proofs.line.put_decisions.Statement.{statement}
 use Rattle.listing.proofs.line.put_decisions.Tie as tie
-use Rattle.listing.proofs.line.put_decisions.Reads as reads
-use Rattle.listing.proofs.line.put_decisions.Lts as lts
-use Rattle.listing.proofs.line.put_decision.Reads as put-decision-reads
 
 abbrev Inv-loop : tie.InvT-loop
 Inv-loop out₀ at list i₀ out i = (i ≤ length list) × (out ≡ sets out₀ at (each decisionBytes (filled 0 i list)))

@@ -12,11 +12,6 @@ use borrow.Author.Needs.{needs}
 use borrow.Author.Needs.{needs}
 use Rattle.listing.proofs.line.put_line.Statement.{statement}
 use Rattle.listing.proofs.line.put_line.Tie as tie
-use Rattle.listing.proofs.line.put_line.Reads as reads
-use Rattle.listing.proofs.line.put_line.Lts as lts
-use Rattle.listing.proofs.line.number_digit.Reads as number-digit-reads
-use Rattle.listing.proofs.line.put.Reads as put-reads
-use Rattle.listing.proofs.line.put_decisions.Reads as put-decisions-reads
 
 number-digit-requires : tie.Need-number-digit-requires
 number-digit-requires c κs = search needs
