@@ -1,4 +1,4 @@
--- What the contracts of `case` cite. Assumes nothing.
+-- What the contracts of `case` cite.
 use Prim.Native.Nat.{ℕ, _+_, _-_}
 use mathlib.Core.Path.{_≡_}
 use mathlib.Core.Bool.{Bool, true, false, cond}
@@ -8,8 +8,11 @@ use lib.ListN.{length, take, drop}
 use Rattle.bytes.specs.Bytes.{indexOf, slice}
 use Rattle.rules.specs.declared.answer.Numbers.{Numbers}
 use Rattle.rules.specs.Answer.{numbersOf}
-use Rattle.rules.specs.Judge.{judgeOf}
+use Rattle.rules.specs.Judge.{Given, judgeOf}
+use Rattle.rules.specs.Walk.{firstOf, nextOf}
 use Rattle.vectors.specs.Text.{numberOf}
+use Rattle.vectors.specs.declared.case.Call.{Call}
+use Rattle.vectors.specs.declared.case.Call.the-variants.{Judge, First, Next}
 use Rattle.vectors.specs.declared.text.Number.{Number}
 use Rattle.vectors.specs.declared.text.Number.the-variants.{Is, Bad}
 
@@ -33,7 +36,13 @@ answerFrom text from (n ∷ ns) =
 abbrev pub inOrder : Numbers → List ℕ
 inOrder n = n .number ∷ n .place ∷ n .thread ∷ n .position ∷ n .object ∷ n .other ∷ []
 
--- on this buffer the judge gives the answer that the text tells, and leaves what is told
-pub record Agreed (table list buffer answer told : List ℕ) : Type 0 where
-  pub numbers : answerFrom answer 0 (inOrder (numbersOf (judgeOf table list buffer .answer))) ≡ true
-  pub bytes : judgeOf table list buffer .buffer ≡ told
+-- what a call gives
+abbrev pub givenOf : Call → List ℕ → List ℕ → List ℕ → Given
+givenOf Judge table list buffer = judgeOf table list buffer
+givenOf First table list buffer = firstOf table buffer
+givenOf Next table list buffer = nextOf table list buffer
+
+-- on this buffer the call gives the answer that the text tells, and leaves what is told
+pub record Agreed (call : Call) (table list buffer answer told : List ℕ) : Type 0 where
+  pub numbers : answerFrom answer 0 (inOrder (numbersOf (givenOf call table list buffer .answer))) ≡ true
+  pub bytes : givenOf call table list buffer .buffer ≡ told

@@ -1,20 +1,32 @@
-// One stored case, a line `table|list|sheetlen|answer|sheet`: the judge is called, and what it gives is compared.
+// One stored case, a line `table|list|room|answer|bytes`, with `first|` or `next|` before it if it is not the judge's: the call is made on a buffer
+// of that room, and what it gives is compared.
 ghost use mathlib.Core.Path.{_≡_};
 ghost use mathlib.Core.Bool.{true};
 ghost use Prim.Native.Nat.{_≤_};
 ghost use lib.ListN.{length, replicate};
 ghost use Rattle.vectors.specs.Text.{numberOf};
-ghost use Rattle.vectors.specs.Case.{isNumber, answerFrom, inOrder, Agreed};
+ghost use Rattle.vectors.specs.Case.{isNumber, answerFrom, inOrder, givenOf, Agreed};
 use crate::text::Hex;
 use crate::text::Number;
 use crate::text::decimal;
 use crate::text::hex_bytes;
+use rules::answer::Answer;
 use rules::answer::Numbers;
+use turns::judge::judge;
+use walk::walk::first;
+use walk::walk::next;
 
 // More than the largest table, list or sheet.
 const ROOM: usize = 2048;
 // Stands in the buffer beforehand, and is not 0, so that a byte that was written shows.
 const FILL: u8 = 0xA5;
+
+// What a case calls.
+pub enum Call {
+    Judge,
+    First,
+    Next,
+}
 
 // The six numbers in the order in which a line has them.
 fn in_order(n: Numbers) -> [usize; 6]
@@ -64,18 +76,42 @@ fn filled(b: u8) -> [u8; ROOM]
     [b; ROOM]
 }
 
-// The judge gives this answer, and leaves in the buffer what `told` has.
-fn gives(table: &[u8], list: &[u8], buffer: &mut [u8], answer: &[u8], told: &[u8]) -> bool
-    ensures { λ r. ⌜ (r ≡ true → Agreed (now (table .entry)) (now (list .entry)) (now (buffer .entry)) (now (answer .entry)) (now (told .entry))) ⌝ }
-    ensures { λ r. ⌜ (Agreed (now (table .entry)) (now (list .entry)) (now (buffer .entry)) (now (answer .entry)) (now (told .entry)) → r ≡ true) ⌝ }
+fn made(call: Call, table: &[u8], list: &[u8], buffer: &mut [u8]) -> Answer
+    ensures { λ r. ⌜ record { answer = r; buffer = now (buffer .exit) } ≡ givenOf call (now (table .entry)) (now (list .entry)) (now (buffer .entry)) ⌝ }
 {
-    let a = turns::judge::judge(table, list, buffer);
+    match call {
+        Call::Judge => judge(table, list, buffer),
+        Call::First => first(table, buffer),
+        Call::Next => next(table, list, buffer),
+    }
+}
+
+// The call gives this answer, and leaves in the buffer what `told` has.
+fn gives(
+    call: Call,
+    table: &[u8],
+    list: &[u8],
+    buffer: &mut [u8],
+    answer: &[u8],
+    told: &[u8],
+) -> bool
+    ensures { λ r. ⌜ (r ≡ true → Agreed call (now (table .entry)) (now (list .entry)) (now (buffer .entry)) (now (answer .entry)) (now (told .entry))) ⌝ }
+    ensures { λ r. ⌜ (Agreed call (now (table .entry)) (now (list .entry)) (now (buffer .entry)) (now (answer .entry)) (now (told .entry)) → r ≡ true) ⌝ }
+{
+    let a = made(call, table, list, buffer);
     let six = in_order(tables::answer::numbers(a));
     is_answer(answer, six) && check::same(buffer, told)
 }
 
-// The sheet is put over the fill, so one comparison shows what was written and what was not.
-fn replay(table: &[u8], list: &[u8], length: &[u8], answer: &[u8], sheet: &[u8]) -> bool {
+// The bytes are put over the fill, so one comparison shows what was written and what was not.
+fn replay(
+    call: Call,
+    table: &[u8],
+    list: &[u8],
+    room: &[u8],
+    answer: &[u8],
+    written: &[u8],
+) -> bool {
     let mut t = filled(FILL);
     let Hex::Bytes(a) = hex_bytes(table, &mut t) else {
         return false;
@@ -85,10 +121,10 @@ fn replay(table: &[u8], list: &[u8], length: &[u8], answer: &[u8], sheet: &[u8])
         return false;
     };
     let mut told = filled(FILL);
-    let Hex::Bytes(c) = hex_bytes(sheet, &mut told) else {
+    let Hex::Bytes(c) = hex_bytes(written, &mut told) else {
         return false;
     };
-    let Number::Is(n) = decimal(length) else {
+    let Number::Is(n) = decimal(room) else {
         return false;
     };
     if n < c {
@@ -98,7 +134,7 @@ fn replay(table: &[u8], list: &[u8], length: &[u8], answer: &[u8], sheet: &[u8])
         return false;
     }
     let mut buffer = filled(FILL);
-    gives(&t[..a], &l[..b], &mut buffer[..n], answer, &told[..n])
+    gives(call, &t[..a], &l[..b], &mut buffer[..n], answer, &told[..n])
 }
 
 // Where the next bar stands, or the line's length.
@@ -109,8 +145,8 @@ fn bar(line: &[u8], from: usize) -> usize
     bytes::scan::find(line, from, line.len(), b'|')
 }
 
-// A line that lacks a field is no case that could agree.
-pub fn agrees(line: &[u8]) -> bool {
+// The fields after the call's name; one that lacks is no case that could agree.
+fn fields_agree(call: Call, line: &[u8]) -> bool {
     let n = line.len();
     let a = bar(line, 0);
     if a == n {
@@ -129,10 +165,31 @@ pub fn agrees(line: &[u8]) -> bool {
         return false;
     }
     replay(
+        call,
         &line[..a],
         &line[a + 1..b],
         &line[b + 1..c],
         &line[c + 1..d],
         &line[d + 1..],
     )
+}
+
+fn begins_with(line: &[u8], name: &[u8]) -> bool
+    ensures { λ r. ⌜ (r ≡ true → length (now (name .entry)) ≤ length (now (line .entry))) ⌝ }
+{
+    let n = name.len();
+    if line.len() < n {
+        return false;
+    }
+    check::same(&line[..n], name)
+}
+
+pub fn agrees(line: &[u8]) -> bool {
+    if begins_with(line, b"first|") {
+        return fields_agree(Call::First, &line[6..]);
+    }
+    if begins_with(line, b"next|") {
+        return fields_agree(Call::Next, &line[5..]);
+    }
+    fields_agree(Call::Judge, line)
 }

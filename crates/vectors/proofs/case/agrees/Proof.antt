@@ -1,132 +1,75 @@
--- `case::agrees` is safe and ends.
-use mathlib.Core.Path.{sym}
+-- `case::agrees` is safe.
 use native.Mathlib.Omega.{arith}
-use lib.Seq.{length-take-le}
+use borrow.Author.Needs.{needs}
 use borrow.Author.Needs.{needs}
 use Rattle.vectors.proofs.case.agrees.Statement.{statement}
 use Rattle.vectors.proofs.case.agrees.Tie as tie
 
-bar-requires : tie.Need-bar-requires
-bar-requires c κs = search needs
+slice-aggregate-begins-with : tie.Need-slice-aggregate-begins-with
+slice-aggregate-begins-with c = search needs
+
+begins-with-requires : tie.Need-begins-with-requires
+begins-with-requires c κs = search needs
+
+sub-fields-agree : tie.Need-sub-fields-agree
+sub-fields-agree c = let h = c .before .begins-with .ensures (c .if1 .taken) in omega (arith, h)
+
+part-fields-agree-start : tie.Need-part-fields-agree-start
+part-fields-agree-start c = let h = c .before .begins-with .ensures (c .if1 .taken) in omega (arith, h)
+
+part-fields-agree-end : tie.Need-part-fields-agree-end
+part-fields-agree-end c = search needs
+
+fields-agree-requires : tie.Need-fields-agree-requires
+fields-agree-requires c κs = search needs
 
 returns : tie.Need-returns
 returns c = search needs
 
-add-bar : tie.Need-add-bar
-add-bar c = search needs
+slice-aggregate-begins-with-2 : tie.Need-slice-aggregate-begins-with-2
+slice-aggregate-begins-with-2 c = search needs
 
-bar-requires-2 : tie.Need-bar-requires-2
-bar-requires-2 c κs = search needs
+begins-with-requires-2 : tie.Need-begins-with-requires-2
+begins-with-requires-2 c κs = search needs
+
+sub-fields-agree-2 : tie.Need-sub-fields-agree-2
+sub-fields-agree-2 c = let h = c .before .begins-with2 .ensures (c .if2 .taken) in omega (arith, h)
+
+part-fields-agree-start-2 : tie.Need-part-fields-agree-start-2
+part-fields-agree-start-2 c = let h = c .before .begins-with2 .ensures (c .if2 .taken) in omega (arith, h)
+
+part-fields-agree-end-2 : tie.Need-part-fields-agree-end-2
+part-fields-agree-end-2 c = search needs
+
+fields-agree-requires-2 : tie.Need-fields-agree-requires-2
+fields-agree-requires-2 c κs = search needs
 
 returns-2 : tie.Need-returns-2
 returns-2 c = search needs
 
-add-bar-2 : tie.Need-add-bar-2
-add-bar-2 c = search needs
-
-bar-requires-3 : tie.Need-bar-requires-3
-bar-requires-3 c κs = search needs
+fields-agree-requires-3 : tie.Need-fields-agree-requires-3
+fields-agree-requires-3 c κs = search needs
 
 returns-3 : tie.Need-returns-3
 returns-3 c = search needs
-
-add-bar-3 : tie.Need-add-bar-3
-add-bar-3 c = search needs
-
-bar-requires-4 : tie.Need-bar-requires-4
-bar-requires-4 c κs = search needs
-
-returns-4 : tie.Need-returns-4
-returns-4 c = search needs
-
-slice-aggregate-replay : tie.Need-slice-aggregate-replay
-slice-aggregate-replay c = sym (length-take-le (c .before .before .before .before .before .before .before .before .bar .result) (c .before .before .before .before .before .before .before .before .before .before .args .line .now) (c .before .before .before .before .before .before .before .before .bar .ensures .1))
-
-add-replay : tie.Need-add-replay
-add-replay c = search needs
-
-sub-replay : tie.Need-sub-replay
-sub-replay c = search needs
-
-part-replay-start : tie.Need-part-replay-start
-part-replay-start c = search needs
-
-part-replay-end : tie.Need-part-replay-end
-part-replay-end c = search needs
-
-add-replay-2 : tie.Need-add-replay-2
-add-replay-2 c = search needs
-
-sub-replay-2 : tie.Need-sub-replay-2
-sub-replay-2 c = search needs
-
-part-replay-start-2 : tie.Need-part-replay-start-2
-part-replay-start-2 c = search needs
-
-part-replay-end-2 : tie.Need-part-replay-end-2
-part-replay-end-2 c = search needs
-
-add-replay-3 : tie.Need-add-replay-3
-add-replay-3 c = search needs
-
-sub-replay-3 : tie.Need-sub-replay-3
-sub-replay-3 c = search needs
-
-part-replay-start-3 : tie.Need-part-replay-start-3
-part-replay-start-3 c = search needs
-
-part-replay-end-3 : tie.Need-part-replay-end-3
-part-replay-end-3 c = search needs
-
-add-replay-4 : tie.Need-add-replay-4
-add-replay-4 c = search needs
-
-sub-replay-4 : tie.Need-sub-replay-4
-sub-replay-4 c = omega (arith, c .before .before .before .before .before .bar4 .ensures, c .before .before .before .before .if4 .left)
-
-part-replay-start-4 : tie.Need-part-replay-start-4
-part-replay-start-4 c = omega (arith, c .before .before .before .before .before .bar4 .ensures, c .before .before .before .before .if4 .left)
-
-part-replay-end-4 : tie.Need-part-replay-end-4
-part-replay-end-4 c = search needs
-
-replay-requires : tie.Need-replay-requires
-replay-requires c κs = search needs
-
-returns-5 : tie.Need-returns-5
-returns-5 c = search needs
 
 pub agrees-spec : {M : Type 1} → statement M
 agrees-spec =
     tie.close
     (tie.spec
-    bar-requires
+    slice-aggregate-begins-with
+    begins-with-requires
+    sub-fields-agree
+    part-fields-agree-start
+    part-fields-agree-end
+    fields-agree-requires
     returns
-    add-bar
-    bar-requires-2
+    slice-aggregate-begins-with-2
+    begins-with-requires-2
+    sub-fields-agree-2
+    part-fields-agree-start-2
+    part-fields-agree-end-2
+    fields-agree-requires-2
     returns-2
-    add-bar-2
-    bar-requires-3
-    returns-3
-    add-bar-3
-    bar-requires-4
-    returns-4
-    slice-aggregate-replay
-    add-replay
-    sub-replay
-    part-replay-start
-    part-replay-end
-    add-replay-2
-    sub-replay-2
-    part-replay-start-2
-    part-replay-end-2
-    add-replay-3
-    sub-replay-3
-    part-replay-start-3
-    part-replay-end-3
-    add-replay-4
-    sub-replay-4
-    part-replay-start-4
-    part-replay-end-4
-    replay-requires
-    returns-5)
+    fields-agree-requires-3
+    returns-3)

@@ -1,6 +1,6 @@
 -- `text::decimal` meets its contract. The digits that are left, read on from the number so far, give what the whole text gives.
 use Prim.Native.Nat.{ℕ, _≤_, _<_, _+_, _*_, _-_}
-use mathlib.Core.Path.{_≡_, refl, sym, _∙_}
+use mathlib.Core.Path.{_≡_, refl}
 use mathlib.Core.List.{List, [], _∷_}
 use native.Mathlib.Numerals.{add-one}
 use native.Mathlib.Omega.{arith}
@@ -8,7 +8,6 @@ use borrow.Author.Needs.{needs}
 use borrow.Author.Tests.{lt-ltb, le-ltb}
 use lib.ListN.{length, getD, drop, drop-of-length-le}
 use lib.Seq.{drop-cons}
-use Rattle.vectors.specs.declared.text.Number.{Number}
 use Rattle.vectors.specs.declared.text.Number.the-variants.{Is, Bad}
 use Rattle.vectors.specs.Text.{hexValue, numberFrom, numberOf}
 use Rattle.vectors.proofs.text.decimal.Statement.{statement}
