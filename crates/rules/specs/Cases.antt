@@ -1,6 +1,9 @@
 -- Worked examples as tables of cases: what a call gives for a table and a list, beside what document 01 says that it gives.
-use Prim.Native.Nat.{ℕ}
-use mathlib.Core.List.{List, [], _∷_}
+use Prim.Native.Nat.{ℕ, zero, suc, _+_}
+use mathlib.Core.Path.{_≡_}
+use mathlib.Core.Bool.{true, false}
+use mathlib.Core.List.{List, [], _∷_, _++_}
+use lib.Dec.{eqb}
 use lib.ListN.{take, drop, replicate}
 use Rattle.clocks.specs.Clock as clocks-clock
 use Rattle.lists.specs.Judge as lists-judge
@@ -23,14 +26,33 @@ use Rattle.rules.specs.Announce as announce
 use Rattle.rules.specs.Turn as turn
 use Rattle.rules.specs.Sheet as sheet
 use Rattle.rules.specs.Judge as judge
+use Rattle.rules.specs.Judge.{Given, judgeOf}
 use Rattle.rules.specs.Walk as walk
+use Rattle.rules.specs.Walk.{firstOf, nextOf}
 use Rattle.rules.specs.declared.answer.Numbers.{Numbers}
 
--- what is looked at: the six numbers, n bytes of the buffer from a place on, or the lines that `runs` prints
+-- what is looked at: the six numbers, n bytes of the buffer from a place on, the lines that `runs` prints, or the same lines by the calls of
+-- "first", "next" and the judge
 pub data Look : Type 0 where
   numbers : Look
   bytes : ℕ → ℕ → Look
   runs : Look
+  walked : Look
+
+-- the three calls, by whoever answers them
+pub record Calls : Type 0 where
+  pub judge : List ℕ → List ℕ → List ℕ → Given
+  pub first : List ℕ → List ℕ → Given
+  pub next : List ℕ → List ℕ → List ℕ → Given
+
+abbrev pub definitions : Calls
+definitions = record { judge = judgeOf; first = firstOf; next = nextOf }
+
+-- the code's promise: each call gives what the definitions say
+pub record Promised (c : Calls) : Type 0 where
+  pub judge : (table list buffer : List ℕ) → c .judge table list buffer ≡ judgeOf table list buffer
+  pub first : (table buffer : List ℕ) → c .first table buffer ≡ firstOf table buffer
+  pub next : (table list buffer : List ℕ) → c .next table list buffer ≡ nextOf table list buffer
 
 pub record Case : Type 0 where
   pub table : List ℕ
@@ -45,13 +67,25 @@ sixNumbers n = n .number ∷ n .place ∷ n .thread ∷ n .position ∷ n .objec
 abbrev pub lent : List ℕ
 lent = replicate 160 0xEE
 
-abbrev seen : Look → List ℕ → List ℕ → List ℕ
-seen numbers table list = sixNumbers (answer.numbersOf (judge.judgeOf table list lent .answer))
-seen (bytes from n) table list = take n (drop from (judge.judgeOf table list lent .buffer))
-seen runs table list = walk.runsOf 9 table
+-- a line for each list, from what "first" or "next" gave on, at most n
+abbrev lines : Calls → ℕ → List ℕ → Given → List ℕ
+lines c zero table g = []
+lines c (suc n) table g =
+    let six = answer.numbersOf (g .answer) in
+    let list = take (six .place) (g .buffer) in
+    elim (eqb (six .number) 8) [
+      | true ↦ (48 + answer.numbersOf (c .judge table list lent .answer) .number) ∷ walk.decisionText list ++ lines c n table (c .next table list lent)
+      | false ↦ []
+    ]
+
+abbrev seen : Calls → Look → List ℕ → List ℕ → List ℕ
+seen c numbers table list = sixNumbers (answer.numbersOf (c .judge table list lent .answer))
+seen c (bytes from n) table list = take n (drop from (c .judge table list lent .buffer))
+seen c runs table list = walk.runsOf 9 table
+seen c walked table list = lines c 9 table (c .first table lent)
 
 -- to open this is to open every definition
-unfoldable pub given : Case → List ℕ
+unfoldable pub given : Calls → Case → List ℕ
 unfolding ground.loaded
     ground.unparkThread
     ground.changed ground.changedAt ground.others
@@ -86,7 +120,7 @@ unfolding ground.loaded
     lists-greedy.seek lists-greedy.smallest lists-greedy.larger lists-greedy.greedy lists-next.firstOf lists-next.raised
     lists-next.later lists-next.pass lists-next.nextOf lists-walk.walkFrom lists-walk.walk clocks-clock.joinOf
     clocks-clock.incOf clocks-clock.aheadOf
-given c = seen (c .look) (c .table) (c .list)
+given calls c = seen calls (c .look) (c .table) (c .list)
 
 abbrev pub expectedOf : Case → List ℕ
 expectedOf c = c .expected

@@ -1,8 +1,8 @@
 -- Document 01, "Bench examples", a to j: one table, and one statement over it.
-use mathlib.Core.Path.{_≡_, refl}
+use mathlib.Core.Path.{_≡_, refl, _∙_}
 use mathlib.Core.List.{List, [], _∷_, _++_, map}
 use lib.ListN.{replicate}
-use Rattle.rules.specs.Cases.{Case, numbers, bytes, runs, given, expectedOf}
+use Rattle.rules.specs.Cases.{Case, Calls, Promised, numbers, bytes, runs, walked, definitions, given, expectedOf}
 
 abbrev examples : List Case
 examples =
@@ -32,8 +32,13 @@ examples =
     ∷ record { table = 0x13 ∷ 0x00 ∷ 0x00 ∷ 0x20 ∷ 0x3C ∷ 0x00 ∷ 0x20 ∷ 0x3D ∷ 0x00 ∷ 0x20 ∷ 0x3D ∷ 0x00 ∷ []; list = 0x01 ∷ 0x02 ∷ 0x00 ∷ 0x00 ∷ 0x01 ∷ 0x02 ∷ []; look = numbers; expected = 4 ∷ 0 ∷ 2 ∷ 0 ∷ 0 ∷ 255 ∷ [] }
     -- j: the lines of `runs`, `2 00 00` and `0 00 01 00`
     ∷ record { table = 0x13 ∷ 0x00 ∷ 0x01 ∷ 0x20 ∷ 0x3D ∷ 0x00 ∷ []; list = []; look = runs; expected = 50 ∷ 32 ∷ 48 ∷ 48 ∷ 32 ∷ 48 ∷ 48 ∷ 10 ∷ 48 ∷ 32 ∷ 48 ∷ 48 ∷ 32 ∷ 48 ∷ 49 ∷ 32 ∷ 48 ∷ 48 ∷ 10 ∷ [] }
+    ∷ record { table = 0x13 ∷ 0x00 ∷ 0x01 ∷ 0x20 ∷ 0x3D ∷ 0x00 ∷ []; list = []; look = walked; expected = 50 ∷ 32 ∷ 48 ∷ 48 ∷ 32 ∷ 48 ∷ 48 ∷ 10 ∷ 48 ∷ 32 ∷ 48 ∷ 48 ∷ 32 ∷ 48 ∷ 49 ∷ 32 ∷ 48 ∷ 48 ∷ 10 ∷ [] }
     ∷ []
 
-pub examples-hold : map given examples ≡ map expectedOf examples
+-- by whatever code keeps the promises, and so by the definitions themselves
+pub examples-hold : (c : Calls) → Promised c → map (given c) examples ≡ map expectedOf examples
 unfolding given
-examples-hold = refl
+examples-hold c p =
+    let computed : map (given definitions) examples ≡ map expectedOf examples = refl in
+    (λ i. map (given (record { judge = λ table list buffer. p .judge table list buffer i; first = λ table buffer. p .first table buffer i; next = λ table list buffer. p .next table list buffer i })) examples)
+    ∙ computed
