@@ -1,5 +1,6 @@
 pub mod Step
 pub mod Run
 pub mod RunLaws
+pub mod Quiet
 pub mod Running
 pub mod Start

@@ -3,7 +3,8 @@ ghost use mathlib.Core.Path.{_≡_};
 ghost use Rattle.clocks.specs.Clock.{risen};
 ghost use Rattle.rules.specs.Ground.{threadAt};
 ghost use Rattle.rules.specs.Turn.{mutexOf};
-ghost use Rattle.turns.specs.Step.{firstSubject, subject, fails, over, goes, failing, queues, advanced, thereafter, operation, begins, free, asking, goesOn, spurious, answers, waits, act};
+ghost use Rattle.turns.specs.Quiet.{subjectIn};
+ghost use Rattle.turns.specs.Step.{firstSubject, fails, over, goes, failing, queues, advanced, thereafter, operation, begins, free, asking, goesOn, spurious, answers, waits, act};
 use crate::announce::asks;
 use crate::announce::is_free;
 use crate::effect::effect;
@@ -75,7 +76,7 @@ pub struct Moved {
     pub scene: Scene,
 }
 
-fn mutex_of(call: Call) -> ObjectId
+pub fn mutex_of(call: Call) -> ObjectId
     ensures { λ r. ⌜ r ≡ mutexOf call ⌝ }
 {
     match call {
@@ -106,16 +107,12 @@ fn first_subject(phase: Phase, op: Op) -> ObjectId
     }
 }
 
-// The object that a move is about.
-pub fn subject(threads: [Thread; THREADS], m: Move, op: Op) -> ObjectId
-    ensures { λ r. ⌜ r ≡ subject threads m op ⌝ }
+// The object that a move is about, by its thread's phase.
+pub fn subject(phase: Phase, m: Move, op: Op) -> ObjectId
+    ensures { λ r. ⌜ r ≡ subjectIn phase m op ⌝ }
 {
     match m {
-        Move::Begins(t) => {
-            let x = get(threads, t);
-            let phase = x.phase;
-            first_subject(phase, op)
-        }
+        Move::Begins(_) => first_subject(phase, op),
         Move::Answers(_, _) => op.object,
         Move::Goes(_, _) => op.object,
         Move::Waits(_, o) => o,
@@ -209,7 +206,7 @@ fn thereafter(call: Call, t: ThreadId, p: u8, s: Scene) -> Moved
     }
 }
 
-fn one_more_turn(n: u16) -> u16
+pub fn one_more_turn(n: u16) -> u16
     ensures { λ r. ⌜ r ≡ risen 65535 n ⌝ }
 {
     if n < 65535 { n + 1 } else { n }
