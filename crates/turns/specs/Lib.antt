@@ -2,5 +2,6 @@ pub mod Step
 pub mod Run
 pub mod RunLaws
 pub mod Quiet
+pub mod Loud
 pub mod Running
 pub mod Start

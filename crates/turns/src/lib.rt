@@ -3,6 +3,7 @@ mod after;
 mod announce;
 mod effect;
 pub mod judge;
+mod loud;
 mod quiet;
 pub mod run;
 mod step;

@@ -10,6 +10,13 @@ use crate::after::any_runnable;
 use crate::after::leak_check;
 use crate::after::stuck;
 use crate::announce::asks;
+use crate::loud::asked_in;
+use crate::loud::follows;
+use crate::loud::is_fine;
+use crate::loud::loudly;
+use crate::loud::op_in;
+use crate::loud::settled;
+use crate::loud::turn_in;
 use crate::quiet::is_barred;
 use crate::quiet::is_begun;
 use crate::quiet::is_quiet;
@@ -18,8 +25,6 @@ use crate::quiet::who;
 use crate::step::Acting;
 use crate::step::Deed;
 use crate::step::Move;
-use crate::step::Scene;
-use crate::step::act;
 use crate::step::subject;
 use clocks::THREADS;
 use clocks::ThreadId;
@@ -210,21 +215,21 @@ pub fn run(table: Table, world: World, list: &[u8]) -> Ran
                         threads[i] = y;
                     }
                 } else {
-                    let scene = Scene {
-                        entry: e,
-                        threads: threads,
-                        turn: turn,
-                        asked: asked,
-                    };
-                    let moved = act(moves, deed.left, op, scene);
-                    let s = moved.scene;
-                    let entry = s.entry;
-                    acting = moved.acting;
-                    threads = s.threads;
-                    turn = s.turn;
-                    asked = s.asked;
-                    if o < OBJECTS {
-                        objects[o] = entry;
+                    let work = op_in(phase, moves, op);
+                    let n = turn_in(moves, turn);
+                    let r = loudly(moves, work, n, e, threads);
+                    let ending = r.ending;
+                    acting = follows(ending, moves, work, x.position);
+                    if is_fine(ending) {
+                        let entry = r.entry;
+                        let after = r.threads;
+                        let work_call = work.call;
+                        threads = settled(moves, work_call, after);
+                        turn = n;
+                        asked = asked_in(moves, asked);
+                        if o < OBJECTS {
+                            objects[o] = entry;
+                        }
                     }
                 }
             }

@@ -29,7 +29,10 @@ use Rattle.rules.specs.Announce.{asks}
 use Rattle.turns.specs.declared.step.Deed.{Deed}
 use Rattle.turns.specs.declared.step.Scene.{Scene}
 use Rattle.turns.specs.declared.quiet.Quiet.{Quiet}
-use Rattle.turns.specs.Step.{subject}
+use Rattle.rules.specs.declared.world.Effect.{Effect}
+use Rattle.turns.specs.declared.step.Moved.{Moved}
+use Rattle.turns.specs.Step.{subject, act}
+use Rattle.turns.specs.Loud.{opIn, turnIn, loudly, settledBy, isFine, follows, work, doneBy, loud-fine, loud-fails}
 use Rattle.turns.specs.Run.{placeOf, chosen}
 use Rattle.turns.specs.Quiet.{who, isBegun, subjectIn, subject-in, placeIn, place-in, allowedIn, allowed-in, isQuiet, isBarred, quietly, stayed, quiet-law}
 use borrow.Author.Needs.{needs}
@@ -460,8 +463,26 @@ loop-again-5 c =
     let next = acted (a .table) list (a .world) (l .threads) (l .objects) (l .turn) (l .asked) (l .acting) (l .at) (l .inv .0) deed (c .before .before .before .before .before .before .before .before .before .before .before .before .before .before .before .before .acting2 .given .1) long o about e out (stayed s t q) done objects (sym (ap (set objects (o .0)) out ∙ set-getD objects (o .0) _)) in
     (subst (λ (us : List Thread). Running (a .table) list (a .world) us objects (q .turn) (q .asked) (q .acting) (l .at)) (set-out ts (t .0) (q .thread) (omega (arith, c .if9 .left, six))) next, six)
 
-act-requires : tie.Need-act-requires Inv-loop μ-loop
-act-requires c κs = search needs
+op-in-requires : tie.Need-op-in-requires Inv-loop μ-loop
+op-in-requires c κs = search needs
+
+turn-in-requires : tie.Need-turn-in-requires Inv-loop μ-loop
+turn-in-requires c κs = search needs
+
+loudly-requires : tie.Need-loudly-requires Inv-loop μ-loop
+loudly-requires c κs = search needs
+
+follows-requires : tie.Need-follows-requires Inv-loop μ-loop
+follows-requires c κs = search needs
+
+is-fine-requires : tie.Need-is-fine-requires Inv-loop μ-loop
+is-fine-requires c κs = search needs
+
+settled-requires : tie.Need-settled-requires Inv-loop μ-loop
+settled-requires c κs = search needs
+
+asked-in-requires : tie.Need-asked-in-requires Inv-loop μ-loop
+asked-in-requires c κs = search needs
 
 mul-objects : tie.Need-mul-objects Inv-loop μ-loop
 mul-objects c = search needs
@@ -471,137 +492,294 @@ array-set-from-objects c = search needs
 
 loop-less-6 : tie.Need-loop-less-6 Inv-loop μ-loop
 loop-less-6 c =
-    let l = c .before .before .before .before .before .before .before .before .before .before .before .before .before .before .before .before .before .loop in
-    let a = c .before .before .before .before .before .before .before .before .before .before .before .before .before .before .before .before .before .before .before .before .before .before .args in
+    let l = c .before .before .before .before .before .before .before .before .before .before .before .before .before .before .before .before .before .before .before .before .before .before .before .loop in
+    let a = c .before .before .before .before .before .before .before .before .before .before .before .before .before .before .before .before .before .before .before .before .before .before .before .before .before .before .before .before .args in
     let list : List ℕ = a .list .now in
     let ops : List Op = a .table .ops in
-    let long : length ops ≡ 192 = sym (length-map ops _) ∙ c .before .before .before .before .before .before .before .before .before .before .before .before .before .before .before .before .before .before .before .before .before .before .good .0 .1 .1 .1 .1 .0 .1 .0 .1 in
-    let deed : Deed = c .before .before .before .before .before .before .before .before .before .before .before .before .before .before .before .acting2 .given .0 .0 in
+    let long : length ops ≡ 192 = sym (length-map ops _) ∙ c .before .before .before .before .before .before .before .before .before .before .before .before .before .before .before .before .before .before .before .before .before .before .before .before .before .before .before .before .good .0 .1 .1 .1 .1 .0 .1 .0 .1 in
+    let deed : Deed = c .before .before .before .before .before .before .before .before .before .before .before .before .before .before .before .before .before .before .before .before .before .acting2 .given .0 .0 in
     let m = deed .moves in
     let op = deed .op in
     let ts : List Thread = l .threads in
     let six : length ts ≡ 6 = l .inv .1 in
-    let t : ThreadId = c .before .before .before .before .before .before .before .before .before .before .before .before .who3 .result in
-    let x : Thread = c .before .before .before .before .before .before .before .before .before .before .if6 .x in
+    let t : ThreadId = c .before .before .before .before .before .before .before .before .before .before .before .before .before .before .before .before .before .before .who3 .result in
+    let x : Thread = c .before .before .before .before .before .before .before .before .before .before .before .before .before .before .before .before .if6 .x in
     let found : x ≡ threadAt ts t =
-    elim (c .before .before .before .before .before .before .before .before .before .before .if6 .came) [
+    elim (c .before .before .before .before .before .before .before .before .before .before .before .before .before .before .before .before .if6 .came) [
       | inl w ↦ w .2 ∙ getD-within ts (t .0) _ _ (omega (arith, w .0 .taken, six))
       | inr w ↦ w .2 ∙ w .1 .ensures ∙ sym (List·getD-eq-default ts _ (omega (arith, w .0 .left, six)))
     ] in
-    let seen : x ≡ threadAt ts (who (m)) = found ∙ ap (threadAt ts) (c .before .before .before .before .before .before .before .before .before .before .before .before .who3 .ensures) in
+    let seen : x ≡ threadAt ts (who (m)) = found ∙ ap (threadAt ts) (c .before .before .before .before .before .before .before .before .before .before .before .before .before .before .before .before .before .before .who3 .ensures) in
     let objects : List Entry = l .objects in
     let all : length objects ≡ 16 = l .inv .0 .all in
-    let o : ObjectId = c .before .before .before .before .before .before .before .before .before .subject .result in
-    let about : o ≡ subject ts m op = c .before .before .before .before .before .before .before .before .before .subject .ensures ∙ ap (λ (y : Thread). subjectIn (y .phase) m op) seen ∙ sym (subject-in ts m op) in
-    let e : Entry = c .before .before .before .before .before .before .before .if7 .e in
+    let o : ObjectId = c .before .before .before .before .before .before .before .before .before .before .before .before .before .before .before .subject .result in
+    let about : o ≡ subject ts m op = c .before .before .before .before .before .before .before .before .before .before .before .before .before .before .before .subject .ensures ∙ ap (λ (y : Thread). subjectIn (y .phase) m op) seen ∙ sym (subject-in ts m op) in
+    let e : Entry = c .before .before .before .before .before .before .before .before .before .before .before .before .before .if7 .e in
     let out : e ≡ entryAt objects o =
-    elim (c .before .before .before .before .before .before .before .if7 .came) [
+    elim (c .before .before .before .before .before .before .before .before .before .before .before .before .before .if7 .came) [
       | inl w ↦ w .2 ∙ taken-there objects (o .0) _ (omega (arith, w .0 .taken))
       | inr w ↦ w .2 ∙ w .1 .ensures ∙ taken-none objects (o .0) (omega (arith, w .0 .left))
     ] in
-    let less = acted-less (a .table) list (a .world) (l .threads) (l .objects) (l .turn) (l .asked) (l .acting) (l .at) (l .inv .0) deed (c .before .before .before .before .before .before .before .before .before .before .before .before .before .before .before .acting2 .given .1) long o about e out _ (c .before .before .before .before .act .ensures) in
+    let s : Scene = record { entry = e; threads = ts; turn = l .turn; asked = l .asked } in
+    let is-loud = ap (λ (y : Thread). isQuiet (y .phase) m (deed .left) (op .call)) (sym seen) ∙ sym (c .before .before .before .before .before .before .before .before .before .before .before .before .is-quiet .ensures) ∙ c .before .before .before .before .before .before .before .before .before .before .before .if8 .left in
+    let w : Op = c .before .before .before .before .before .before .before .before .before .before .op-in .result in
+    let n : ℕ = c .before .before .before .before .before .before .before .before .before .turn-in .result in
+    let r : Effect = c .before .before .before .before .before .before .before .before .loudly .result in
+    let is-w : w ≡ work op s m = c .before .before .before .before .before .before .before .before .before .before .op-in .ensures ∙ ap (λ (y : Thread). opIn (y .phase) m op) seen in
+    let is-n : n ≡ turnIn m (l .turn) = c .before .before .before .before .before .before .before .before .before .turn-in .ensures in
+    let is-r : r ≡ doneBy op s m (work op s m) = c .before .before .before .before .before .before .before .before .loudly .ensures ∙ (λ i. loudly m (is-w i) (is-n i) e ts) in
+    let acting = c .before .before .before .before .before .before .before .follows .ensures ∙ (λ i. follows (is-r i .ending) m (is-w i) (seen i .position)) in
+    let is-fine = ap (λ (y : Effect). isFine (y .ending)) (sym is-r) ∙ sym (c .before .before .before .before .before .before .is-fine .ensures) in
+    let us : List Thread = c .before .before .settled .result in
+    let is-us : us ≡ settledBy m (work op s m .call) (doneBy op s m (work op s m) .threads) = c .before .before .settled .ensures ∙ (λ i. settledBy m (is-w i .call) (is-r i .threads)) in
+    let is-asked = c .before .asked-in .ensures in
+    let moved : Moved = record { acting = c .before .before .before .before .before .before .before .follows .result; scene = record { entry = r .entry; threads = us; turn = n; asked = c .before .asked-in .result } } in
+    let done : moved ≡ act m (deed .left) op s =
+    (λ i. record { acting = acting i; scene = record { entry = is-r i .entry; threads = is-us i; turn = is-n i; asked = is-asked i } })
+    ∙ sym (loud-fine op s m (deed .left) is-loud (is-fine ∙ c .before .before .before .before .before .if10 .taken)) in
+    let less = acted-less (a .table) list (a .world) (l .threads) (l .objects) (l .turn) (l .asked) (l .acting) (l .at) (l .inv .0) deed (c .before .before .before .before .before .before .before .before .before .before .before .before .before .before .before .before .before .before .before .before .before .acting2 .given .1) long o about e out moved done in
     omega (arith, less)
 
 loop-again-6 : tie.Need-loop-again-6 Inv-loop μ-loop
 loop-again-6 c =
-    let l = c .before .before .before .before .before .before .before .before .before .before .before .before .before .before .before .before .before .loop in
-    let a = c .before .before .before .before .before .before .before .before .before .before .before .before .before .before .before .before .before .before .before .before .before .before .args in
+    let l = c .before .before .before .before .before .before .before .before .before .before .before .before .before .before .before .before .before .before .before .before .before .before .before .loop in
+    let a = c .before .before .before .before .before .before .before .before .before .before .before .before .before .before .before .before .before .before .before .before .before .before .before .before .before .before .before .before .args in
     let list : List ℕ = a .list .now in
     let ops : List Op = a .table .ops in
-    let long : length ops ≡ 192 = sym (length-map ops _) ∙ c .before .before .before .before .before .before .before .before .before .before .before .before .before .before .before .before .before .before .before .before .before .before .good .0 .1 .1 .1 .1 .0 .1 .0 .1 in
-    let deed : Deed = c .before .before .before .before .before .before .before .before .before .before .before .before .before .before .before .acting2 .given .0 .0 in
+    let long : length ops ≡ 192 = sym (length-map ops _) ∙ c .before .before .before .before .before .before .before .before .before .before .before .before .before .before .before .before .before .before .before .before .before .before .before .before .before .before .before .before .good .0 .1 .1 .1 .1 .0 .1 .0 .1 in
+    let deed : Deed = c .before .before .before .before .before .before .before .before .before .before .before .before .before .before .before .before .before .before .before .before .before .acting2 .given .0 .0 in
     let m = deed .moves in
     let op = deed .op in
     let ts : List Thread = l .threads in
     let six : length ts ≡ 6 = l .inv .1 in
-    let t : ThreadId = c .before .before .before .before .before .before .before .before .before .before .before .before .who3 .result in
-    let x : Thread = c .before .before .before .before .before .before .before .before .before .before .if6 .x in
+    let t : ThreadId = c .before .before .before .before .before .before .before .before .before .before .before .before .before .before .before .before .before .before .who3 .result in
+    let x : Thread = c .before .before .before .before .before .before .before .before .before .before .before .before .before .before .before .before .if6 .x in
     let found : x ≡ threadAt ts t =
-    elim (c .before .before .before .before .before .before .before .before .before .before .if6 .came) [
+    elim (c .before .before .before .before .before .before .before .before .before .before .before .before .before .before .before .before .if6 .came) [
       | inl w ↦ w .2 ∙ getD-within ts (t .0) _ _ (omega (arith, w .0 .taken, six))
       | inr w ↦ w .2 ∙ w .1 .ensures ∙ sym (List·getD-eq-default ts _ (omega (arith, w .0 .left, six)))
     ] in
-    let seen : x ≡ threadAt ts (who (m)) = found ∙ ap (threadAt ts) (c .before .before .before .before .before .before .before .before .before .before .before .before .who3 .ensures) in
+    let seen : x ≡ threadAt ts (who (m)) = found ∙ ap (threadAt ts) (c .before .before .before .before .before .before .before .before .before .before .before .before .before .before .before .before .before .before .who3 .ensures) in
     let objects : List Entry = l .objects in
     let all : length objects ≡ 16 = l .inv .0 .all in
-    let o : ObjectId = c .before .before .before .before .before .before .before .before .before .subject .result in
-    let about : o ≡ subject ts m op = c .before .before .before .before .before .before .before .before .before .subject .ensures ∙ ap (λ (y : Thread). subjectIn (y .phase) m op) seen ∙ sym (subject-in ts m op) in
-    let e : Entry = c .before .before .before .before .before .before .before .if7 .e in
+    let o : ObjectId = c .before .before .before .before .before .before .before .before .before .before .before .before .before .before .before .subject .result in
+    let about : o ≡ subject ts m op = c .before .before .before .before .before .before .before .before .before .before .before .before .before .before .before .subject .ensures ∙ ap (λ (y : Thread). subjectIn (y .phase) m op) seen ∙ sym (subject-in ts m op) in
+    let e : Entry = c .before .before .before .before .before .before .before .before .before .before .before .before .before .if7 .e in
     let out : e ≡ entryAt objects o =
-    elim (c .before .before .before .before .before .before .before .if7 .came) [
+    elim (c .before .before .before .before .before .before .before .before .before .before .before .before .before .if7 .came) [
       | inl w ↦ w .2 ∙ taken-there objects (o .0) _ (omega (arith, w .0 .taken))
       | inr w ↦ w .2 ∙ w .1 .ensures ∙ taken-none objects (o .0) (omega (arith, w .0 .left))
     ] in
-    let us : List Thread = c .before .before .before .before .act .result .scene .threads in
-    let still : length us ≡ 6 = sym (length-map us _) ∙ c .before .before .before .before .act .ok .1 .1 .1 .0 .1 .1 .1 .0 .1 .0 .1 in
-    (acted (a .table) list (a .world) (l .threads) (l .objects) (l .turn) (l .asked) (l .acting) (l .at) (l .inv .0) deed (c .before .before .before .before .before .before .before .before .before .before .before .before .before .before .before .acting2 .given .1) long o about e out _ (c .before .before .before .before .act .ensures) _ refl, still)
+    let s : Scene = record { entry = e; threads = ts; turn = l .turn; asked = l .asked } in
+    let is-loud = ap (λ (y : Thread). isQuiet (y .phase) m (deed .left) (op .call)) (sym seen) ∙ sym (c .before .before .before .before .before .before .before .before .before .before .before .before .is-quiet .ensures) ∙ c .before .before .before .before .before .before .before .before .before .before .before .if8 .left in
+    let w : Op = c .before .before .before .before .before .before .before .before .before .before .op-in .result in
+    let n : ℕ = c .before .before .before .before .before .before .before .before .before .turn-in .result in
+    let r : Effect = c .before .before .before .before .before .before .before .before .loudly .result in
+    let is-w : w ≡ work op s m = c .before .before .before .before .before .before .before .before .before .before .op-in .ensures ∙ ap (λ (y : Thread). opIn (y .phase) m op) seen in
+    let is-n : n ≡ turnIn m (l .turn) = c .before .before .before .before .before .before .before .before .before .turn-in .ensures in
+    let is-r : r ≡ doneBy op s m (work op s m) = c .before .before .before .before .before .before .before .before .loudly .ensures ∙ (λ i. loudly m (is-w i) (is-n i) e ts) in
+    let acting = c .before .before .before .before .before .before .before .follows .ensures ∙ (λ i. follows (is-r i .ending) m (is-w i) (seen i .position)) in
+    let is-fine = ap (λ (y : Effect). isFine (y .ending)) (sym is-r) ∙ sym (c .before .before .before .before .before .before .is-fine .ensures) in
+    let us : List Thread = c .before .before .settled .result in
+    let is-us : us ≡ settledBy m (work op s m .call) (doneBy op s m (work op s m) .threads) = c .before .before .settled .ensures ∙ (λ i. settledBy m (is-w i .call) (is-r i .threads)) in
+    let is-asked = c .before .asked-in .ensures in
+    let moved : Moved = record { acting = c .before .before .before .before .before .before .before .follows .result; scene = record { entry = r .entry; threads = us; turn = n; asked = c .before .asked-in .result } } in
+    let done : moved ≡ act m (deed .left) op s =
+    (λ i. record { acting = acting i; scene = record { entry = is-r i .entry; threads = is-us i; turn = is-n i; asked = is-asked i } })
+    ∙ sym (loud-fine op s m (deed .left) is-loud (is-fine ∙ c .before .before .before .before .before .if10 .taken)) in
+    let still : length us ≡ 6 = c .before .before .settled .ok .1 .0 .1 in
+    (acted (a .table) list (a .world) (l .threads) (l .objects) (l .turn) (l .asked) (l .acting) (l .at) (l .inv .0) deed (c .before .before .before .before .before .before .before .before .before .before .before .before .before .before .before .before .before .before .before .before .before .acting2 .given .1) long o about e out moved done _ refl, still)
 
 loop-less-7 : tie.Need-loop-less-7 Inv-loop μ-loop
 loop-less-7 c =
-    let l = c .before .before .before .before .before .before .before .before .before .before .before .before .before .before .before .before .before .loop in
-    let a = c .before .before .before .before .before .before .before .before .before .before .before .before .before .before .before .before .before .before .before .before .before .before .args in
+    let l = c .before .before .before .before .before .before .before .before .before .before .before .before .before .before .before .before .before .before .before .before .before .before .before .loop in
+    let a = c .before .before .before .before .before .before .before .before .before .before .before .before .before .before .before .before .before .before .before .before .before .before .before .before .before .before .before .before .args in
     let list : List ℕ = a .list .now in
     let ops : List Op = a .table .ops in
-    let long : length ops ≡ 192 = sym (length-map ops _) ∙ c .before .before .before .before .before .before .before .before .before .before .before .before .before .before .before .before .before .before .before .before .before .before .good .0 .1 .1 .1 .1 .0 .1 .0 .1 in
-    let deed : Deed = c .before .before .before .before .before .before .before .before .before .before .before .before .before .before .before .acting2 .given .0 .0 in
+    let long : length ops ≡ 192 = sym (length-map ops _) ∙ c .before .before .before .before .before .before .before .before .before .before .before .before .before .before .before .before .before .before .before .before .before .before .before .before .before .before .before .before .good .0 .1 .1 .1 .1 .0 .1 .0 .1 in
+    let deed : Deed = c .before .before .before .before .before .before .before .before .before .before .before .before .before .before .before .before .before .before .before .before .before .acting2 .given .0 .0 in
     let m = deed .moves in
     let op = deed .op in
     let ts : List Thread = l .threads in
     let six : length ts ≡ 6 = l .inv .1 in
-    let t : ThreadId = c .before .before .before .before .before .before .before .before .before .before .before .before .who3 .result in
-    let x : Thread = c .before .before .before .before .before .before .before .before .before .before .if6 .x in
+    let t : ThreadId = c .before .before .before .before .before .before .before .before .before .before .before .before .before .before .before .before .before .before .who3 .result in
+    let x : Thread = c .before .before .before .before .before .before .before .before .before .before .before .before .before .before .before .before .if6 .x in
     let found : x ≡ threadAt ts t =
-    elim (c .before .before .before .before .before .before .before .before .before .before .if6 .came) [
+    elim (c .before .before .before .before .before .before .before .before .before .before .before .before .before .before .before .before .if6 .came) [
       | inl w ↦ w .2 ∙ getD-within ts (t .0) _ _ (omega (arith, w .0 .taken, six))
       | inr w ↦ w .2 ∙ w .1 .ensures ∙ sym (List·getD-eq-default ts _ (omega (arith, w .0 .left, six)))
     ] in
-    let seen : x ≡ threadAt ts (who (m)) = found ∙ ap (threadAt ts) (c .before .before .before .before .before .before .before .before .before .before .before .before .who3 .ensures) in
+    let seen : x ≡ threadAt ts (who (m)) = found ∙ ap (threadAt ts) (c .before .before .before .before .before .before .before .before .before .before .before .before .before .before .before .before .before .before .who3 .ensures) in
     let objects : List Entry = l .objects in
     let all : length objects ≡ 16 = l .inv .0 .all in
-    let o : ObjectId = c .before .before .before .before .before .before .before .before .before .subject .result in
-    let about : o ≡ subject ts m op = c .before .before .before .before .before .before .before .before .before .subject .ensures ∙ ap (λ (y : Thread). subjectIn (y .phase) m op) seen ∙ sym (subject-in ts m op) in
-    let e : Entry = c .before .before .before .before .before .before .before .if7 .e in
+    let o : ObjectId = c .before .before .before .before .before .before .before .before .before .before .before .before .before .before .before .subject .result in
+    let about : o ≡ subject ts m op = c .before .before .before .before .before .before .before .before .before .before .before .before .before .before .before .subject .ensures ∙ ap (λ (y : Thread). subjectIn (y .phase) m op) seen ∙ sym (subject-in ts m op) in
+    let e : Entry = c .before .before .before .before .before .before .before .before .before .before .before .before .before .if7 .e in
     let out : e ≡ entryAt objects o =
-    elim (c .before .before .before .before .before .before .before .if7 .came) [
+    elim (c .before .before .before .before .before .before .before .before .before .before .before .before .before .if7 .came) [
       | inl w ↦ w .2 ∙ taken-there objects (o .0) _ (omega (arith, w .0 .taken))
       | inr w ↦ w .2 ∙ w .1 .ensures ∙ taken-none objects (o .0) (omega (arith, w .0 .left))
     ] in
-    let less = acted-less (a .table) list (a .world) (l .threads) (l .objects) (l .turn) (l .asked) (l .acting) (l .at) (l .inv .0) deed (c .before .before .before .before .before .before .before .before .before .before .before .before .before .before .before .acting2 .given .1) long o about e out _ (c .before .before .before .before .act .ensures) in
+    let s : Scene = record { entry = e; threads = ts; turn = l .turn; asked = l .asked } in
+    let is-loud = ap (λ (y : Thread). isQuiet (y .phase) m (deed .left) (op .call)) (sym seen) ∙ sym (c .before .before .before .before .before .before .before .before .before .before .before .before .is-quiet .ensures) ∙ c .before .before .before .before .before .before .before .before .before .before .before .if8 .left in
+    let w : Op = c .before .before .before .before .before .before .before .before .before .before .op-in .result in
+    let n : ℕ = c .before .before .before .before .before .before .before .before .before .turn-in .result in
+    let r : Effect = c .before .before .before .before .before .before .before .before .loudly .result in
+    let is-w : w ≡ work op s m = c .before .before .before .before .before .before .before .before .before .before .op-in .ensures ∙ ap (λ (y : Thread). opIn (y .phase) m op) seen in
+    let is-n : n ≡ turnIn m (l .turn) = c .before .before .before .before .before .before .before .before .before .turn-in .ensures in
+    let is-r : r ≡ doneBy op s m (work op s m) = c .before .before .before .before .before .before .before .before .loudly .ensures ∙ (λ i. loudly m (is-w i) (is-n i) e ts) in
+    let acting = c .before .before .before .before .before .before .before .follows .ensures ∙ (λ i. follows (is-r i .ending) m (is-w i) (seen i .position)) in
+    let is-fine = ap (λ (y : Effect). isFine (y .ending)) (sym is-r) ∙ sym (c .before .before .before .before .before .before .is-fine .ensures) in
+    let us : List Thread = c .before .before .settled .result in
+    let is-us : us ≡ settledBy m (work op s m .call) (doneBy op s m (work op s m) .threads) = c .before .before .settled .ensures ∙ (λ i. settledBy m (is-w i .call) (is-r i .threads)) in
+    let is-asked = c .before .asked-in .ensures in
+    let moved : Moved = record { acting = c .before .before .before .before .before .before .before .follows .result; scene = record { entry = r .entry; threads = us; turn = n; asked = c .before .asked-in .result } } in
+    let done : moved ≡ act m (deed .left) op s =
+    (λ i. record { acting = acting i; scene = record { entry = is-r i .entry; threads = is-us i; turn = is-n i; asked = is-asked i } })
+    ∙ sym (loud-fine op s m (deed .left) is-loud (is-fine ∙ c .before .before .before .before .before .if10 .taken)) in
+    let less = acted-less (a .table) list (a .world) (l .threads) (l .objects) (l .turn) (l .asked) (l .acting) (l .at) (l .inv .0) deed (c .before .before .before .before .before .before .before .before .before .before .before .before .before .before .before .before .before .before .before .before .before .acting2 .given .1) long o about e out moved done in
     omega (arith, less)
 
 loop-again-7 : tie.Need-loop-again-7 Inv-loop μ-loop
 loop-again-7 c =
-    let l = c .before .before .before .before .before .before .before .before .before .before .before .before .before .before .before .before .before .loop in
-    let a = c .before .before .before .before .before .before .before .before .before .before .before .before .before .before .before .before .before .before .before .before .before .before .args in
+    let l = c .before .before .before .before .before .before .before .before .before .before .before .before .before .before .before .before .before .before .before .before .before .before .before .loop in
+    let a = c .before .before .before .before .before .before .before .before .before .before .before .before .before .before .before .before .before .before .before .before .before .before .before .before .before .before .before .before .args in
     let list : List ℕ = a .list .now in
     let ops : List Op = a .table .ops in
-    let long : length ops ≡ 192 = sym (length-map ops _) ∙ c .before .before .before .before .before .before .before .before .before .before .before .before .before .before .before .before .before .before .before .before .before .before .good .0 .1 .1 .1 .1 .0 .1 .0 .1 in
-    let deed : Deed = c .before .before .before .before .before .before .before .before .before .before .before .before .before .before .before .acting2 .given .0 .0 in
+    let long : length ops ≡ 192 = sym (length-map ops _) ∙ c .before .before .before .before .before .before .before .before .before .before .before .before .before .before .before .before .before .before .before .before .before .before .before .before .before .before .before .before .good .0 .1 .1 .1 .1 .0 .1 .0 .1 in
+    let deed : Deed = c .before .before .before .before .before .before .before .before .before .before .before .before .before .before .before .before .before .before .before .before .before .acting2 .given .0 .0 in
     let m = deed .moves in
     let op = deed .op in
     let ts : List Thread = l .threads in
     let six : length ts ≡ 6 = l .inv .1 in
-    let t : ThreadId = c .before .before .before .before .before .before .before .before .before .before .before .before .who3 .result in
-    let x : Thread = c .before .before .before .before .before .before .before .before .before .before .if6 .x in
+    let t : ThreadId = c .before .before .before .before .before .before .before .before .before .before .before .before .before .before .before .before .before .before .who3 .result in
+    let x : Thread = c .before .before .before .before .before .before .before .before .before .before .before .before .before .before .before .before .if6 .x in
     let found : x ≡ threadAt ts t =
-    elim (c .before .before .before .before .before .before .before .before .before .before .if6 .came) [
+    elim (c .before .before .before .before .before .before .before .before .before .before .before .before .before .before .before .before .if6 .came) [
       | inl w ↦ w .2 ∙ getD-within ts (t .0) _ _ (omega (arith, w .0 .taken, six))
       | inr w ↦ w .2 ∙ w .1 .ensures ∙ sym (List·getD-eq-default ts _ (omega (arith, w .0 .left, six)))
     ] in
-    let seen : x ≡ threadAt ts (who (m)) = found ∙ ap (threadAt ts) (c .before .before .before .before .before .before .before .before .before .before .before .before .who3 .ensures) in
+    let seen : x ≡ threadAt ts (who (m)) = found ∙ ap (threadAt ts) (c .before .before .before .before .before .before .before .before .before .before .before .before .before .before .before .before .before .before .who3 .ensures) in
     let objects : List Entry = l .objects in
     let all : length objects ≡ 16 = l .inv .0 .all in
-    let o : ObjectId = c .before .before .before .before .before .before .before .before .before .subject .result in
-    let about : o ≡ subject ts m op = c .before .before .before .before .before .before .before .before .before .subject .ensures ∙ ap (λ (y : Thread). subjectIn (y .phase) m op) seen ∙ sym (subject-in ts m op) in
-    let e : Entry = c .before .before .before .before .before .before .before .if7 .e in
+    let o : ObjectId = c .before .before .before .before .before .before .before .before .before .before .before .before .before .before .before .subject .result in
+    let about : o ≡ subject ts m op = c .before .before .before .before .before .before .before .before .before .before .before .before .before .before .before .subject .ensures ∙ ap (λ (y : Thread). subjectIn (y .phase) m op) seen ∙ sym (subject-in ts m op) in
+    let e : Entry = c .before .before .before .before .before .before .before .before .before .before .before .before .before .if7 .e in
     let out : e ≡ entryAt objects o =
-    elim (c .before .before .before .before .before .before .before .if7 .came) [
+    elim (c .before .before .before .before .before .before .before .before .before .before .before .before .before .if7 .came) [
       | inl w ↦ w .2 ∙ taken-there objects (o .0) _ (omega (arith, w .0 .taken))
       | inr w ↦ w .2 ∙ w .1 .ensures ∙ taken-none objects (o .0) (omega (arith, w .0 .left))
     ] in
-    let us : List Thread = c .before .before .before .before .act .result .scene .threads in
-    let still : length us ≡ 6 = sym (length-map us _) ∙ c .before .before .before .before .act .ok .1 .1 .1 .0 .1 .1 .1 .0 .1 .0 .1 in
-    (acted (a .table) list (a .world) (l .threads) (l .objects) (l .turn) (l .asked) (l .acting) (l .at) (l .inv .0) deed (c .before .before .before .before .before .before .before .before .before .before .before .before .before .before .before .acting2 .given .1) long o about e out _ (c .before .before .before .before .act .ensures) _ (sym (set-out objects (o .0) _ (omega (arith, c .if10 .left)))), still)
+    let s : Scene = record { entry = e; threads = ts; turn = l .turn; asked = l .asked } in
+    let is-loud = ap (λ (y : Thread). isQuiet (y .phase) m (deed .left) (op .call)) (sym seen) ∙ sym (c .before .before .before .before .before .before .before .before .before .before .before .before .is-quiet .ensures) ∙ c .before .before .before .before .before .before .before .before .before .before .before .if8 .left in
+    let w : Op = c .before .before .before .before .before .before .before .before .before .before .op-in .result in
+    let n : ℕ = c .before .before .before .before .before .before .before .before .before .turn-in .result in
+    let r : Effect = c .before .before .before .before .before .before .before .before .loudly .result in
+    let is-w : w ≡ work op s m = c .before .before .before .before .before .before .before .before .before .before .op-in .ensures ∙ ap (λ (y : Thread). opIn (y .phase) m op) seen in
+    let is-n : n ≡ turnIn m (l .turn) = c .before .before .before .before .before .before .before .before .before .turn-in .ensures in
+    let is-r : r ≡ doneBy op s m (work op s m) = c .before .before .before .before .before .before .before .before .loudly .ensures ∙ (λ i. loudly m (is-w i) (is-n i) e ts) in
+    let acting = c .before .before .before .before .before .before .before .follows .ensures ∙ (λ i. follows (is-r i .ending) m (is-w i) (seen i .position)) in
+    let is-fine = ap (λ (y : Effect). isFine (y .ending)) (sym is-r) ∙ sym (c .before .before .before .before .before .before .is-fine .ensures) in
+    let us : List Thread = c .before .before .settled .result in
+    let is-us : us ≡ settledBy m (work op s m .call) (doneBy op s m (work op s m) .threads) = c .before .before .settled .ensures ∙ (λ i. settledBy m (is-w i .call) (is-r i .threads)) in
+    let is-asked = c .before .asked-in .ensures in
+    let moved : Moved = record { acting = c .before .before .before .before .before .before .before .follows .result; scene = record { entry = r .entry; threads = us; turn = n; asked = c .before .asked-in .result } } in
+    let done : moved ≡ act m (deed .left) op s =
+    (λ i. record { acting = acting i; scene = record { entry = is-r i .entry; threads = is-us i; turn = is-n i; asked = is-asked i } })
+    ∙ sym (loud-fine op s m (deed .left) is-loud (is-fine ∙ c .before .before .before .before .before .if10 .taken)) in
+    let still : length us ≡ 6 = c .before .before .settled .ok .1 .0 .1 in
+    (acted (a .table) list (a .world) (l .threads) (l .objects) (l .turn) (l .asked) (l .acting) (l .at) (l .inv .0) deed (c .before .before .before .before .before .before .before .before .before .before .before .before .before .before .before .before .before .before .before .before .before .acting2 .given .1) long o about e out moved done _ (sym (set-out objects (o .0) _ (omega (arith, c .if11 .left)))), still)
+
+loop-less-8 : tie.Need-loop-less-8 Inv-loop μ-loop
+loop-less-8 c =
+    let l = c .before .before .before .before .before .before .before .before .before .before .before .before .before .before .before .before .before .before .loop in
+    let a = c .before .before .before .before .before .before .before .before .before .before .before .before .before .before .before .before .before .before .before .before .before .before .before .args in
+    let list : List ℕ = a .list .now in
+    let ops : List Op = a .table .ops in
+    let long : length ops ≡ 192 = sym (length-map ops _) ∙ c .before .before .before .before .before .before .before .before .before .before .before .before .before .before .before .before .before .before .before .before .before .before .before .good .0 .1 .1 .1 .1 .0 .1 .0 .1 in
+    let deed : Deed = c .before .before .before .before .before .before .before .before .before .before .before .before .before .before .before .before .acting2 .given .0 .0 in
+    let m = deed .moves in
+    let op = deed .op in
+    let ts : List Thread = l .threads in
+    let six : length ts ≡ 6 = l .inv .1 in
+    let t : ThreadId = c .before .before .before .before .before .before .before .before .before .before .before .before .before .who3 .result in
+    let x : Thread = c .before .before .before .before .before .before .before .before .before .before .before .if6 .x in
+    let found : x ≡ threadAt ts t =
+    elim (c .before .before .before .before .before .before .before .before .before .before .before .if6 .came) [
+      | inl w ↦ w .2 ∙ getD-within ts (t .0) _ _ (omega (arith, w .0 .taken, six))
+      | inr w ↦ w .2 ∙ w .1 .ensures ∙ sym (List·getD-eq-default ts _ (omega (arith, w .0 .left, six)))
+    ] in
+    let seen : x ≡ threadAt ts (who (m)) = found ∙ ap (threadAt ts) (c .before .before .before .before .before .before .before .before .before .before .before .before .before .who3 .ensures) in
+    let objects : List Entry = l .objects in
+    let all : length objects ≡ 16 = l .inv .0 .all in
+    let o : ObjectId = c .before .before .before .before .before .before .before .before .before .before .subject .result in
+    let about : o ≡ subject ts m op = c .before .before .before .before .before .before .before .before .before .before .subject .ensures ∙ ap (λ (y : Thread). subjectIn (y .phase) m op) seen ∙ sym (subject-in ts m op) in
+    let e : Entry = c .before .before .before .before .before .before .before .before .if7 .e in
+    let out : e ≡ entryAt objects o =
+    elim (c .before .before .before .before .before .before .before .before .if7 .came) [
+      | inl w ↦ w .2 ∙ taken-there objects (o .0) _ (omega (arith, w .0 .taken))
+      | inr w ↦ w .2 ∙ w .1 .ensures ∙ taken-none objects (o .0) (omega (arith, w .0 .left))
+    ] in
+    let s : Scene = record { entry = e; threads = ts; turn = l .turn; asked = l .asked } in
+    let is-loud = ap (λ (y : Thread). isQuiet (y .phase) m (deed .left) (op .call)) (sym seen) ∙ sym (c .before .before .before .before .before .before .before .is-quiet .ensures) ∙ c .before .before .before .before .before .before .if8 .left in
+    let w : Op = c .before .before .before .before .before .op-in .result in
+    let n : ℕ = c .before .before .before .before .turn-in .result in
+    let r : Effect = c .before .before .before .loudly .result in
+    let is-w : w ≡ work op s m = c .before .before .before .before .before .op-in .ensures ∙ ap (λ (y : Thread). opIn (y .phase) m op) seen in
+    let is-n : n ≡ turnIn m (l .turn) = c .before .before .before .before .turn-in .ensures in
+    let is-r : r ≡ doneBy op s m (work op s m) = c .before .before .before .loudly .ensures ∙ (λ i. loudly m (is-w i) (is-n i) e ts) in
+    let acting = c .before .before .follows .ensures ∙ (λ i. follows (is-r i .ending) m (is-w i) (seen i .position)) in
+    let is-fine = ap (λ (y : Effect). isFine (y .ending)) (sym is-r) ∙ sym (c .before .is-fine .ensures) in
+    let moved : Moved = record { acting = c .before .before .follows .result; scene = s } in
+    let done : moved ≡ act m (deed .left) op s =
+    (λ i. record { acting = acting i; scene = s }) ∙ sym (loud-fails op s m (deed .left) is-loud (is-fine ∙ c .if10 .left)) in
+    let less = acted-less (a .table) list (a .world) (l .threads) (l .objects) (l .turn) (l .asked) (l .acting) (l .at) (l .inv .0) deed (c .before .before .before .before .before .before .before .before .before .before .before .before .before .before .before .before .acting2 .given .1) long o about e out moved done in
+    omega (arith, less)
+
+loop-again-8 : tie.Need-loop-again-8 Inv-loop μ-loop
+loop-again-8 c =
+    let l = c .before .before .before .before .before .before .before .before .before .before .before .before .before .before .before .before .before .before .loop in
+    let a = c .before .before .before .before .before .before .before .before .before .before .before .before .before .before .before .before .before .before .before .before .before .before .before .args in
+    let list : List ℕ = a .list .now in
+    let ops : List Op = a .table .ops in
+    let long : length ops ≡ 192 = sym (length-map ops _) ∙ c .before .before .before .before .before .before .before .before .before .before .before .before .before .before .before .before .before .before .before .before .before .before .before .good .0 .1 .1 .1 .1 .0 .1 .0 .1 in
+    let deed : Deed = c .before .before .before .before .before .before .before .before .before .before .before .before .before .before .before .before .acting2 .given .0 .0 in
+    let m = deed .moves in
+    let op = deed .op in
+    let ts : List Thread = l .threads in
+    let six : length ts ≡ 6 = l .inv .1 in
+    let t : ThreadId = c .before .before .before .before .before .before .before .before .before .before .before .before .before .who3 .result in
+    let x : Thread = c .before .before .before .before .before .before .before .before .before .before .before .if6 .x in
+    let found : x ≡ threadAt ts t =
+    elim (c .before .before .before .before .before .before .before .before .before .before .before .if6 .came) [
+      | inl w ↦ w .2 ∙ getD-within ts (t .0) _ _ (omega (arith, w .0 .taken, six))
+      | inr w ↦ w .2 ∙ w .1 .ensures ∙ sym (List·getD-eq-default ts _ (omega (arith, w .0 .left, six)))
+    ] in
+    let seen : x ≡ threadAt ts (who (m)) = found ∙ ap (threadAt ts) (c .before .before .before .before .before .before .before .before .before .before .before .before .before .who3 .ensures) in
+    let objects : List Entry = l .objects in
+    let all : length objects ≡ 16 = l .inv .0 .all in
+    let o : ObjectId = c .before .before .before .before .before .before .before .before .before .before .subject .result in
+    let about : o ≡ subject ts m op = c .before .before .before .before .before .before .before .before .before .before .subject .ensures ∙ ap (λ (y : Thread). subjectIn (y .phase) m op) seen ∙ sym (subject-in ts m op) in
+    let e : Entry = c .before .before .before .before .before .before .before .before .if7 .e in
+    let out : e ≡ entryAt objects o =
+    elim (c .before .before .before .before .before .before .before .before .if7 .came) [
+      | inl w ↦ w .2 ∙ taken-there objects (o .0) _ (omega (arith, w .0 .taken))
+      | inr w ↦ w .2 ∙ w .1 .ensures ∙ taken-none objects (o .0) (omega (arith, w .0 .left))
+    ] in
+    let s : Scene = record { entry = e; threads = ts; turn = l .turn; asked = l .asked } in
+    let is-loud = ap (λ (y : Thread). isQuiet (y .phase) m (deed .left) (op .call)) (sym seen) ∙ sym (c .before .before .before .before .before .before .before .is-quiet .ensures) ∙ c .before .before .before .before .before .before .if8 .left in
+    let w : Op = c .before .before .before .before .before .op-in .result in
+    let n : ℕ = c .before .before .before .before .turn-in .result in
+    let r : Effect = c .before .before .before .loudly .result in
+    let is-w : w ≡ work op s m = c .before .before .before .before .before .op-in .ensures ∙ ap (λ (y : Thread). opIn (y .phase) m op) seen in
+    let is-n : n ≡ turnIn m (l .turn) = c .before .before .before .before .turn-in .ensures in
+    let is-r : r ≡ doneBy op s m (work op s m) = c .before .before .before .loudly .ensures ∙ (λ i. loudly m (is-w i) (is-n i) e ts) in
+    let acting = c .before .before .follows .ensures ∙ (λ i. follows (is-r i .ending) m (is-w i) (seen i .position)) in
+    let is-fine = ap (λ (y : Effect). isFine (y .ending)) (sym is-r) ∙ sym (c .before .is-fine .ensures) in
+    let moved : Moved = record { acting = c .before .before .follows .result; scene = s } in
+    let done : moved ≡ act m (deed .left) op s =
+    (λ i. record { acting = acting i; scene = s }) ∙ sym (loud-fails op s m (deed .left) is-loud (is-fine ∙ c .if10 .left)) in
+    (acted (a .table) list (a .world) (l .threads) (l .objects) (l .turn) (l .asked) (l .acting) (l .at) (l .inv .0) deed (c .before .before .before .before .before .before .before .before .before .before .before .before .before .before .before .before .acting2 .given .1) long o about e out moved done objects (sym (ap (set objects (o .0)) out ∙ set-getD objects (o .0) _)), six)
 
 enum-told-2 : tie.Need-enum-told-2 Inv-loop μ-loop
 enum-told-2 c = search needs
@@ -609,20 +787,20 @@ enum-told-2 c = search needs
 after-requires : tie.Need-after-requires Inv-loop μ-loop
 after-requires c κs = search needs
 
-loop-less-8 : tie.Need-loop-less-8 Inv-loop μ-loop
-loop-less-8 c =
+loop-less-9 : tie.Need-loop-less-9 Inv-loop μ-loop
+loop-less-9 c =
     let l = c .before .before .before .loop in
     let a = c .before .before .before .before .before .before .before .before .args in
     let list : List ℕ = a .list .now in
-    let less = turn-over-less (a .table) list (a .world) (l .threads) (l .objects) (l .turn) (l .asked) (l .acting) (l .at) (l .inv .0) (c .before .enum-told2 .given .1) _ (c .after .ensures) in
+    let less = turn-over-less (a .table) list (a .world) (l .threads) (l .objects) (l .turn) (l .asked) (l .acting) (l .at) (l .inv .0) (c .before .enum-told2 .given .1) _ (c .after2 .ensures) in
     omega (arith, less)
 
-loop-again-8 : tie.Need-loop-again-8 Inv-loop μ-loop
-loop-again-8 c =
+loop-again-9 : tie.Need-loop-again-9 Inv-loop μ-loop
+loop-again-9 c =
     let l = c .before .before .before .loop in
     let a = c .before .before .before .before .before .before .before .before .args in
     let list : List ℕ = a .list .now in
-    (turn-over (a .table) list (a .world) (l .threads) (l .objects) (l .turn) (l .asked) (l .acting) (l .at) (l .inv .0) (c .before .enum-told2 .given .1) _ (c .after .ensures), l .inv .1)
+    (turn-over (a .table) list (a .world) (l .threads) (l .objects) (l .turn) (l .asked) (l .acting) (l .at) (l .inv .0) (c .before .enum-told2 .given .1) _ (c .after2 .ensures), l .inv .1)
 
 enum-told-3 : tie.Need-enum-told-3 Inv-loop μ-loop
 enum-told-3 c = search needs
@@ -630,16 +808,16 @@ enum-told-3 c = search needs
 leak-check-requires : tie.Need-leak-check-requires Inv-loop μ-loop
 leak-check-requires c κs = search needs
 
-loop-less-9 : tie.Need-loop-less-9 Inv-loop μ-loop
-loop-less-9 c =
+loop-less-10 : tie.Need-loop-less-10 Inv-loop μ-loop
+loop-less-10 c =
     let l = c .before .before .before .loop in
     let a = c .before .before .before .before .before .before .before .before .args in
     let list : List ℕ = a .list .now in
     let less = all-ended-less (a .table) list (a .world) (l .threads) (l .objects) (l .turn) (l .asked) (l .acting) (l .at) (l .inv .0) (c .before .enum-told3 .given .1) (c .leak-check .result) in
     omega (arith, less)
 
-loop-again-9 : tie.Need-loop-again-9 Inv-loop μ-loop
-loop-again-9 c =
+loop-again-10 : tie.Need-loop-again-10 Inv-loop μ-loop
+loop-again-10 c =
     let l = c .before .before .before .loop in
     let a = c .before .before .before .before .before .before .before .before .args in
     let list : List ℕ = a .list .now in
@@ -725,21 +903,29 @@ run-spec =
     loop-again-4
     loop-less-5
     loop-again-5
-    act-requires
+    op-in-requires
+    turn-in-requires
+    loudly-requires
+    follows-requires
+    is-fine-requires
+    settled-requires
+    asked-in-requires
     mul-objects
     array-set-from-objects
     loop-less-6
     loop-again-6
     loop-less-7
     loop-again-7
-    enum-told-2
-    after-requires
     loop-less-8
     loop-again-8
-    enum-told-3
-    leak-check-requires
+    enum-told-2
+    after-requires
     loop-less-9
     loop-again-9
+    enum-told-3
+    leak-check-requires
+    loop-less-10
+    loop-again-10
     enum-known-acting-3
     world-of-requires-2
     verdict-requires
