@@ -1,12 +1,12 @@
 // Reading a table, a record at a time.
 ghost use mathlib.Core.Path.{_≡_};
-ghost use Prim.Native.Nat.{_+_, _-_, _<_};
-ghost use lib.ListN.{length, getD, set, take, drop};
+ghost use Prim.Native.Nat.{_+_, _<_};
+ghost use lib.ListN.{length, getD, take, drop};
 ghost use Rattle.rules.specs.Object.{noObject};
 ghost use Rattle.rules.specs.declared.object.Kind.the-variants as kind;
 ghost use Rattle.rules.specs.declared.table.Call.the-variants.{Mutex};
 ghost use Rattle.rules.specs.declared.mutex.Call.the-variants as mutex;
-ghost use Rattle.rules.specs.Table.{accepted, emptyTable, noOp, bodyLength, isObject, isOperation, kinds, calls, objectOf, operationOf, wholeRecord, bodyByte, recordOf, kindNumber, kindOf, isKind, mutexFine, objectsFine, withObject, withThread, withOp, lastOf, lastCount, objectRecord, threadRecord, operationRecord, oneRecord, atEnd, readOf, readTable};
+ghost use Rattle.rules.specs.Table.{emptyTable, noOp, bodyLength, isObject, isOperation, kinds, calls, objectOf, operationOf, wholeRecord, bodyByte, recordOf, kindNumber, kindOf, isKind, mutexFine, objectsFine, atEnd, readOf, readTable};
 use clocks::THREADS;
 use rules::answer::Answer;
 use rules::arc;
@@ -290,137 +290,12 @@ fn objects_fine(objects: [Made; OBJECTS], op: Op) -> bool
     false
 }
 
-// The number of the last of n threads; 0 if there is none.
-fn last_place(n: u8) -> usize
-    ensures { λ r. ⌜ r ≡ n - 1 ⌝ }
-{
-    if 0 < n { (n - 1) as usize } else { 0 }
-}
-
-// How many operations the last of n threads has.
-fn last_of(counts: [u8; THREADS], n: u8) -> u8
-    ensures { λ r. ⌜ r ≡ lastOf counts n ⌝ }
-{
-    let i = last_place(n);
-    if i < THREADS {
-        return counts[i];
-    }
-    0
-}
-
-fn with_object(table: Table, m: Made) -> Table
-    requires { ⌜ table .«object_count» < 16 ⌝ }
-    ensures { λ r. ⌜ r ≡ withObject table m ⌝ }
-{
-    let mut out = table;
-    let i = table.object_count as usize;
-    out.objects[i] = m;
-    out.object_count = table.object_count + 1;
-    out
-}
-
-fn with_thread(table: Table) -> Table
-    requires { ⌜ table .«thread_count» < 6 ⌝ }
-    ensures { λ r. ⌜ r ≡ withThread table ⌝ }
-{
-    let mut out = table;
-    out.thread_count = table.thread_count + 1;
-    out
-}
-
-// The counts with one more operation for the thread at place i.
-fn with_count(counts: [u8; THREADS], i: usize, n: u8) -> [u8; THREADS]
-    ensures { λ r. ⌜ r ≡ set counts i n ⌝ }
-{
-    let mut out = counts;
-    if i < THREADS {
-        out[i] = n;
-    }
-    out
-}
-
-fn with_operation(ops: [Op; 192], i: usize, op: Op) -> [Op; 192]
-    ensures { λ r. ⌜ r ≡ set ops i op ⌝ }
-{
-    let mut out = ops;
-    if i < 192 {
-        out[i] = op;
-    }
-    out
-}
-
-fn with_op(table: Table, op: Op) -> Table
-    requires { ⌜ lastCount table < 32 ⌝ }
-    ensures { λ r. ⌜ r ≡ withOp table op ⌝ }
-{
-    let counts = table.counts;
-    let ops = table.ops;
-    let thread = last_place(table.thread_count);
-    let n = last_of(counts, table.thread_count);
-    let more_ops = with_operation(ops, 32 * thread + n as usize, op);
-    let more_counts = with_count(counts, thread, n + 1);
-    let mut out = table;
-    out.ops = more_ops;
-    out.counts = more_counts;
-    out
-}
-
 fn accepted(table: Table) -> TableRead
     ensures { λ r. ⌜ r ≡ readOf (Rattle.rules.specs.Table.accepted table) ⌝ }
 {
     TableRead {
         taken: Taken::Accepted,
         table: table,
-    }
-}
-
-fn add_object(at: usize, table: Table, m: Made) -> TableRead
-    ensures { λ r. ⌜ r ≡ readOf (objectRecord at table m accepted) ⌝ }
-{
-    if table.thread_count != 0 {
-        return refused(Answer::BadRecord(at));
-    }
-    if table.object_count < 16 {
-        return accepted(with_object(table, m));
-    }
-    refused(Answer::TooMany(at))
-}
-
-fn add_thread(at: usize, table: Table) -> TableRead
-    ensures { λ r. ⌜ r ≡ readOf (threadRecord at table accepted) ⌝ }
-{
-    if table.thread_count < 6 {
-        return accepted(with_thread(table));
-    }
-    refused(Answer::TooMany(at))
-}
-
-fn add_operation(at: usize, table: Table, op: Op) -> TableRead
-    ensures { λ r. ⌜ r ≡ readOf (operationRecord at table op accepted) ⌝ }
-{
-    if table.thread_count == 0 {
-        return refused(Answer::BadRecord(at));
-    }
-    let counts = table.counts;
-    let objects = table.objects;
-    if last_of(counts, table.thread_count) < 32 {
-        if objects_fine(objects, op) {
-            return accepted(with_op(table, op));
-        }
-        return refused(Answer::BadObject(at));
-    }
-    refused(Answer::TooMany(at))
-}
-
-// One record more: the first of 20, 21, 22 that it breaks, or the table with it.
-fn add_record(at: usize, table: Table, one: Record) -> TableRead
-    ensures { λ r. ⌜ r ≡ readOf (oneRecord at table one accepted) ⌝ }
-{
-    match one {
-        Record::Object(m) => add_object(at, table, m),
-        Record::Thread => add_thread(at, table),
-        Record::Operation(op) => add_operation(at, table, op),
-        Record::Bad => refused(Answer::BadRecord(at)),
     }
 }
 
@@ -434,7 +309,7 @@ fn at_end(at: usize, table: Table) -> TableRead
     accepted(table)
 }
 
-// The whole table, or the first record that is bad with its place.
+// The whole table, or the first record that is bad with its place. Each record is stored where it belongs.
 pub fn read_table(bytes: &[u8]) -> TableRead
     ensures { λ r. ⌜ r ≡ readOf (readTable (now (bytes .entry))) ⌝ }
 {
@@ -442,13 +317,49 @@ pub fn read_table(bytes: &[u8]) -> TableRead
     let mut at = 0;
     while at < bytes.len() {
         let one = read_record(bytes, at);
-        let read = add_record(at, table, one);
-        let taken = read.taken;
-        let Taken::Accepted = taken else {
-            return read;
-        };
-        table = read.table;
-        at += 1 + body_length(bytes[at]);
+        let next = at + 1 + body_length(bytes[at]);
+        match one {
+            Record::Object(m) => {
+                if table.thread_count != 0 {
+                    return refused(Answer::BadRecord(at));
+                }
+                if 16 <= table.object_count {
+                    return refused(Answer::TooMany(at));
+                }
+                let i = table.object_count as usize;
+                table.objects[i] = m;
+                table.object_count = table.object_count + 1;
+                at = next;
+            }
+            Record::Thread => {
+                if 6 <= table.thread_count {
+                    return refused(Answer::TooMany(at));
+                }
+                table.thread_count = table.thread_count + 1;
+                at = next;
+            }
+            Record::Operation(op) => {
+                if table.thread_count == 0 {
+                    return refused(Answer::BadRecord(at));
+                }
+                let objects = table.objects;
+                let thread = (table.thread_count - 1) as usize;
+                let n = table.counts[thread];
+                if 32 <= n {
+                    return refused(Answer::TooMany(at));
+                }
+                if !objects_fine(objects, op) {
+                    return refused(Answer::BadObject(at));
+                }
+                let i = 32 * thread + n as usize;
+                table.ops[i] = op;
+                table.counts[thread] = n + 1;
+                at = next;
+            }
+            Record::Bad => {
+                return refused(Answer::BadRecord(at));
+            }
+        }
     }
     at_end(at, table)
 }

@@ -1,5 +1,7 @@
 pub mod Step
 pub mod Run
 pub mod RunLaws
+pub mod Quiet
+pub mod Loud
 pub mod Running
 pub mod Start

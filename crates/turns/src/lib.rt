@@ -3,6 +3,8 @@ mod after;
 mod announce;
 mod effect;
 pub mod judge;
+mod loud;
+mod quiet;
 pub mod run;
 mod step;
 mod turn;

@@ -3,27 +3,40 @@ ghost use mathlib.Core.Path.{_≡_};
 ghost use Rattle.lists.specs.Judge.{judge};
 ghost use Rattle.rules.specs.Judge.{step};
 ghost use Rattle.turns.specs.declared.step.Acting.the-variants.{Does};
-ghost use Rattle.turns.specs.Run.{placeAt, placeOf, isAllowed, chosen, after, endAt, ranOf};
+ghost use Rattle.turns.specs.Quiet.{placeIn, allowedIn};
+ghost use Rattle.turns.specs.Run.{placeAt, chosen, after, endAt, ranOf};
 use crate::after::all_ended;
 use crate::after::any_runnable;
 use crate::after::leak_check;
 use crate::after::stuck;
+use crate::announce::asks;
+use crate::loud::asked_in;
+use crate::loud::follows;
+use crate::loud::is_fine;
+use crate::loud::loudly;
+use crate::loud::op_in;
+use crate::loud::settled;
+use crate::loud::turn_in;
+use crate::quiet::is_barred;
+use crate::quiet::is_begun;
+use crate::quiet::is_quiet;
+use crate::quiet::quietly;
+use crate::quiet::who;
 use crate::step::Acting;
 use crate::step::Deed;
 use crate::step::Move;
-use crate::step::Scene;
-use crate::step::act;
 use crate::step::subject;
 use clocks::THREADS;
 use clocks::ThreadId;
 use objects::object;
-use objects::thread::get;
+use objects::thread::absent;
 use objects::thread::is_runnable;
 use rules::answer::Answer;
 use rules::object::Entry;
 use rules::object::OBJECTS;
 use rules::table::Op;
 use rules::table::Table;
+use rules::thread::State;
 use rules::thread::Thread;
 use rules::world::Asked;
 use rules::world::World;
@@ -56,12 +69,12 @@ fn place_at(counts: [u8; THREADS], t: ThreadId, p: u8) -> usize
     192
 }
 
-fn place_of(counts: [u8; THREADS], threads: [Thread; THREADS], m: Move) -> usize
-    ensures { λ r. ⌜ r ≡ placeOf counts threads m ⌝ }
+fn place_of(counts: [u8; THREADS], position: u8, m: Move) -> usize
+    ensures { λ r. ⌜ r ≡ placeIn counts position m ⌝ }
 {
     match m {
-        Move::Begins(t) => place_at(counts, t, get(threads, t).position),
-        Move::Answers(t, _) => place_at(counts, t, get(threads, t).position),
+        Move::Begins(t) => place_at(counts, t, position),
+        Move::Answers(t, _) => place_at(counts, t, position),
         Move::Goes(t, p) => place_at(counts, t, p),
         Move::Waits(_, _) => 192,
     }
@@ -80,16 +93,12 @@ fn after(threads: [Thread; THREADS]) -> Acting
     Acting::Done(Answer::Deadlock(stuck(threads)))
 }
 
-// A decision names a runnable thread, or answers the question with 0 or 1.
-pub fn is_allowed(asked: Asked, threads: [Thread; THREADS], d: u8) -> bool
-    ensures { λ r. ⌜ r ≡ isAllowed asked threads d ⌝ }
+// A decision names a runnable thread, whose state this is, or answers the question with 0 or 1.
+pub fn is_allowed(asked: Asked, state: State, d: u8) -> bool
+    ensures { λ r. ⌜ r ≡ allowedIn asked state d ⌝ }
 {
     match asked {
-        Asked::Nobody => {
-            let x = get(threads, ThreadId(d));
-            let state = x.state;
-            is_runnable(state)
-        }
+        Asked::Nobody => is_runnable(state),
         Asked::Thread(_) => d <= 1,
     }
 }
@@ -160,15 +169,21 @@ pub fn run(table: Table, world: World, list: &[u8]) -> Ran
                     return came_to(End::Unfinished, world_of(threads, objects, turn, asked));
                 }
                 let d = list[at];
-                if !is_allowed(asked, threads, d) {
+                let m = chosen(asked, d);
+                let i = who(m).0 as usize;
+                let x = if i < THREADS { threads[i] } else { absent() };
+                let state = x.state;
+                if !is_allowed(asked, state, d) {
                     return came_to(End::NotAllowed(at), world);
                 }
-                acting = Acting::Moves(chosen(asked, d));
+                acting = Acting::Moves(m);
                 at += 1;
             }
             Acting::Moves(m) => {
                 let counts = table.counts;
-                let k = place_of(counts, threads, m);
+                let i = who(m).0 as usize;
+                let x = if i < THREADS { threads[i] } else { absent() };
+                let k = place_of(counts, x.position, m);
                 if k < 192 {
                     let op = ops[k];
                     acting = does(m, true, op);
@@ -176,30 +191,46 @@ pub fn run(table: Table, world: World, list: &[u8]) -> Ran
                     acting = does(m, false, no_op());
                 }
             }
-            Acting::Does(x) => {
-                let moves = x.moves;
-                let op = x.op;
-                let o = subject(threads, moves, op).0 as usize;
+            Acting::Does(deed) => {
+                let moves = deed.moves;
+                let op = deed.op;
+                let call = op.call;
+                let i = who(moves).0 as usize;
+                let x = if i < THREADS { threads[i] } else { absent() };
+                let phase = x.phase;
+                let o = subject(phase, moves, op).0 as usize;
                 let e = if o < OBJECTS {
                     objects[o]
                 } else {
                     object::absent()
                 };
-                let scene = Scene {
-                    entry: e,
-                    threads: threads,
-                    turn: turn,
-                    asked: asked,
-                };
-                let moved = act(moves, x.left, op, scene);
-                let s = moved.scene;
-                let entry = s.entry;
-                acting = moved.acting;
-                threads = s.threads;
-                turn = s.turn;
-                asked = s.asked;
-                if o < OBJECTS {
-                    objects[o] = entry;
+                if is_quiet(phase, moves, deed.left, call) {
+                    let barred = is_barred(is_begun(moves), call, e);
+                    let q = quietly(moves, deed.left, op, barred, asks(call, e), x, turn, asked);
+                    let y = q.thread;
+                    acting = q.acting;
+                    turn = q.turn;
+                    asked = q.asked;
+                    if i < THREADS {
+                        threads[i] = y;
+                    }
+                } else {
+                    let work = op_in(phase, moves, op);
+                    let n = turn_in(moves, turn);
+                    let r = loudly(moves, work, n, e, threads);
+                    let ending = r.ending;
+                    acting = follows(ending, moves, work, x.position);
+                    if is_fine(ending) {
+                        let entry = r.entry;
+                        let after = r.threads;
+                        let work_call = work.call;
+                        threads = settled(moves, work_call, after);
+                        turn = n;
+                        asked = asked_in(moves, asked);
+                        if o < OBJECTS {
+                            objects[o] = entry;
+                        }
+                    }
                 }
             }
             Acting::Over => {

@@ -1,9 +1,8 @@
 // A turn's steps, on the threads and on the one object that each concerns.
 ghost use mathlib.Core.Path.{_≡_};
 ghost use Rattle.clocks.specs.Clock.{risen};
-ghost use Rattle.rules.specs.Turn.{announceOp, retake, dependence, operate, advance, ended, park, wait};
+ghost use Rattle.rules.specs.Turn.{retake, dependence, operate, advance, park, wait};
 use crate::announce::action_of;
-use crate::announce::is_disabled;
 use crate::effect::effect;
 use clocks::Clock;
 use clocks::THREADS;
@@ -19,7 +18,6 @@ use objects::thread::put;
 use objects::thread::set_blocked;
 use objects::thread::set_runnable;
 use objects::thread::with_phase;
-use objects::thread::with_state;
 use rules::access::Access;
 use rules::object::Action;
 use rules::object::Ending;
@@ -28,30 +26,11 @@ use rules::object::ObjectId;
 use rules::object::Operation;
 use rules::table::Op;
 use rules::thread::Phase;
-use rules::thread::State;
 use rules::thread::Thread;
 use rules::world::Effect;
 
-// The operation is announced on its object.
-pub fn announce_op(t: ThreadId, op: Op, e: Entry, threads: [Thread; THREADS]) -> [Thread; THREADS]
-    ensures { λ r. ⌜ r ≡ announceOp t op e threads ⌝ }
-{
-    let call = op.call;
-    let object = op.object;
-    let action = action_of(call);
-    let phase = Phase::Announced(Operation {
-        obj: object,
-        action: action,
-    });
-    put(
-        threads,
-        t,
-        branch_disable(phase, is_disabled(call, e), get(threads, t)),
-    )
-}
-
 // The mutex of a condvar wait is taken back.
-pub fn retake(t: ThreadId, m: ObjectId, e: Entry, threads: [Thread; THREADS]) -> [Thread; THREADS]
+fn retake(t: ThreadId, m: ObjectId, e: Entry, threads: [Thread; THREADS]) -> [Thread; THREADS]
     ensures { λ r. ⌜ r ≡ retake t m e threads ⌝ }
 {
     let s = e.mutex;
@@ -114,14 +93,6 @@ pub fn advance(t: ThreadId, threads: [Thread; THREADS]) -> [Thread; THREADS]
     let mut x = get(threads, t);
     x.position = one_more(x.position);
     put(threads, t, x)
-}
-
-// No operation is left.
-pub fn ended(t: ThreadId, threads: [Thread; THREADS]) -> [Thread; THREADS]
-    ensures { λ r. ⌜ r ≡ ended t threads ⌝ }
-{
-    let x = with_state(get(threads, t), State::Ended);
-    put(threads, t, with_phase(x, Phase::Nothing))
 }
 
 // A stored unpark is used up, and the thread goes on to retake the mutex; without one it is parked.

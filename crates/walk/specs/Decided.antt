@@ -22,7 +22,8 @@ use Rattle.rules.specs.declared.world.World.{World}
 use Rattle.rules.specs.declared.world.Decided.{Decided}
 use Rattle.rules.specs.TableLaws.{split}
 use Rattle.rules.specs.TurnLaws.{Said, after-said, turn-said}
-use Rattle.rules.specs.Ground.{isRunnable}
+use Rattle.rules.specs.declared.thread.Thread.{Thread}
+use Rattle.rules.specs.Ground.{threadAt, isRunnable}
 use Rattle.rules.specs.Table.{noOp}
 use Rattle.rules.specs.Turn.{threadIn, entryIn, withAsked, withThreads, announceOp, spurious, afterTurn, turnOf, opsLeft, begin, question, decideAt, decide}
 use Rattle.rules.specs.Judge.{Verdict, outcomeOf, step}
@@ -31,6 +32,7 @@ use Rattle.turns.specs.declared.run.End.{End}
 use Rattle.turns.specs.declared.run.End.the-variants as end
 use Rattle.turns.specs.declared.run.Ran.{Ran}
 use Rattle.turns.specs.Run.{isAllowed, ranOf}
+use Rattle.turns.specs.Quiet.{allowedIn}
 use Rattle.walk.specs.declared.walk.Progress.{Progress}
 use Rattle.walk.specs.Says.{stageAt, stageOf, isOver, Completed}
 
@@ -77,6 +79,11 @@ allowed-is table w d = go (w .asked)
     go : (a : Asked) → allowedb (outcomeOf (decideAt a table w d .step) (decideAt a table w d .world)) ≡ isAllowed a (w .threads) d
     go asked.Nobody = begins-allowed table w (record { 0 = d })
     go (asked.Thread t) = asks-allowed t (getD (opsLeft table w t) 0 noOp) d w
+
+-- what is allowed, by the state of the thread that is named
+pub by-state : (a : Asked) (ts : List Thread) (d : ℕ) → allowedIn a (threadAt ts (record { 0 = d }) .state) d ≡ isAllowed a ts d
+by-state asked.Nobody ts d = refl
+by-state (asked.Thread t) ts d = refl
 
 -- the least allowed decision, by what is allowed
 pub least-is : (table : Table) (w : World) (n k : ℕ) → seek (isAllowed (w .asked) (w .threads)) n k ≡ seek (allowed (step table) w) n k

@@ -9,6 +9,8 @@ ghost use Rattle.rules.specs.Walk.{handOver, firstOf, nextOf};
 ghost use Rattle.turns.specs.Run.{isAllowed};
 ghost use Rattle.walk.specs.Says.{isOver, stageOf, Completed, Marked, Started, PassSays, Raisable, raisedTo};
 use clocks::THREADS;
+use clocks::ThreadId;
+use objects::thread::get;
 use rules::answer::Answer;
 use rules::table::Table;
 use rules::table::Taken;
@@ -52,13 +54,21 @@ fn decide(table: Table, world: World, d: u8) -> Ran
     run(table, world, &list)
 }
 
+fn may_be(asked: Asked, threads: [Thread; THREADS], d: u8) -> bool
+    ensures { λ r. ⌜ r ≡ isAllowed asked threads d ⌝ }
+{
+    let x = get(threads, ThreadId(d));
+    let state = x.state;
+    is_allowed(asked, state, d)
+}
+
 // The least allowed decision that is `from` or more; 6 or more if there is none.
 fn least(asked: Asked, threads: [Thread; THREADS], from: usize) -> usize
     ensures { λ r. ⌜ r ≡ seek (isAllowed asked threads) (6 - from) from ⌝ }
 {
     let mut d = from;
     while d < THREADS {
-        if is_allowed(asked, threads, d as u8) {
+        if may_be(asked, threads, d as u8) {
             return d;
         }
         d += 1;

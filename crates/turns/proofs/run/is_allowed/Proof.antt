@@ -1,18 +1,13 @@
 -- `run::is_allowed` meets its contract.
-use mathlib.Core.Path.{sym, _∙_, ap}
-use Rattle.rules.specs.declared.thread.Thread.{Thread}
+use mathlib.Core.Path.{sym, ap}
 use Rattle.rules.specs.declared.world.Asked.{Asked}
-use Rattle.rules.specs.Ground.{isRunnable}
-use Rattle.turns.specs.Run.{isAllowed}
+use Rattle.turns.specs.Quiet.{allowedIn}
 use borrow.Author.Needs.{needs}
 use Rattle.turns.proofs.run.is_allowed.Statement.{statement}
 use Rattle.turns.proofs.run.is_allowed.Tie as tie
 
 enum-told : tie.Need-enum-told
 enum-told c = search needs
-
-get-requires : tie.Need-get-requires
-get-requires c κs = search needs
 
 is-runnable-requires : tie.Need-is-runnable-requires
 is-runnable-requires c κs = search needs
@@ -21,11 +16,10 @@ enum-told-2 : tie.Need-enum-told-2
 enum-told-2 c = search needs
 
 returns : tie.Need-returns
-returns c = let a = c .before .before .before .before .args in c .is-runnable .ensures ∙ ap (λ (x : Thread). isRunnable (x .state)) (c .before .get .ensures) ∙ sym (ap (λ (x : Asked). isAllowed x (a .threads) (a .d)) (c .before .before .enum-told .given .1))
+returns c = search needs
 
 returns-2 : tie.Need-returns-2
-returns-2 c = let a = c .before .before .args in sym (ap (λ (x : Asked). isAllowed x (a .threads) (a .d)) (c .enum-told2 .given .1))
+returns-2 c = let a = c .before .before .args in sym (ap (λ (x : Asked). allowedIn x (a .state) (a .d)) (c .enum-told2 .given .1))
 
 pub is-allowed-spec : {M : Type 1} → statement M
-is-allowed-spec =
-    tie.close (tie.spec enum-told get-requires is-runnable-requires enum-told-2 returns returns-2)
+is-allowed-spec = tie.close (tie.spec enum-told is-runnable-requires enum-told-2 returns returns-2)

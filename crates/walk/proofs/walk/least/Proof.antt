@@ -17,16 +17,16 @@ abbrev μ-loop : tie.MeasureT-loop
 loop-holds : tie.Need-loop-holds Inv-loop μ-loop
 loop-holds c = refl
 
-cast-is-allowed : tie.Need-cast-is-allowed Inv-loop μ-loop
-cast-is-allowed c = search needs
+cast-may-be : tie.Need-cast-may-be Inv-loop μ-loop
+cast-may-be c = search needs
 
-is-allowed-requires : tie.Need-is-allowed-requires Inv-loop μ-loop
-is-allowed-requires c κs = search needs
+may-be-requires : tie.Need-may-be-requires Inv-loop μ-loop
+may-be-requires c κs = search needs
 
 returns : tie.Need-returns Inv-loop μ-loop
 returns c =
     let l = c .before .before .before in
-    sym (l .loop .inv ∙ seek-hit _ 6 (l .loop .d) (c .before .before .loop-test .taken) (sym (c .before .is-allowed .ensures) ∙ c .if1 .taken))
+    sym (l .loop .inv ∙ seek-hit _ 6 (l .loop .d) (c .before .before .loop-test .taken) (sym (c .before .may-be .ensures) ∙ c .if1 .taken))
 
 add-d : tie.Need-add-d Inv-loop μ-loop
 add-d c = search needs
@@ -37,7 +37,7 @@ loop-less c = search needs
 loop-again : tie.Need-loop-again Inv-loop μ-loop
 loop-again c =
     let l = c .before .before .before in
-    l .loop .inv ∙ seek-miss _ 6 (l .loop .d) (c .before .before .loop-test .taken) (sym (c .before .is-allowed .ensures) ∙ c .if1 .left)
+    l .loop .inv ∙ seek-miss _ 6 (l .loop .d) (c .before .before .loop-test .taken) (sym (c .before .may-be .ensures) ∙ c .if1 .left)
 
 returns-2 : tie.Need-returns-2 Inv-loop μ-loop
 returns-2 c = sym (c .before .loop .inv ∙ seek-end _ 6 (c .before .loop .d) (c .loop-test .left))
@@ -49,8 +49,8 @@ least-spec =
     Inv-loop
     μ-loop
     loop-holds
-    cast-is-allowed
-    is-allowed-requires
+    cast-may-be
+    may-be-requires
     returns
     add-d
     loop-less
