@@ -104,7 +104,7 @@ pub fn judge(table: &[u8], list: &[u8], sheet: &mut [u8]) -> Answer
         return a;
     }
     let needed = sheet_length(t);
-    if sheet.len() < needed && list.len() == 0 {
+    if sheet.len() < needed {
         return Answer::TooShort(needed);
     }
     let ran = run(t, start(t), list);
