@@ -1,0 +1,1 @@
+// The laws of forms over what is lent, for any struct of plain data: in specs/ only.

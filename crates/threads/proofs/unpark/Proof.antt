@@ -1,0 +1,21 @@
+-- `threads::unpark` meets its contract, by the law of a lent form with a parameter.
+use mathlib.Core.Path.{_≡_, refl}
+use base.Logic.{emp}
+use contract.Monad.{factI}
+use Rattle.lent.specs.LentOne.{lent}
+use Rattle.clocks.specs.declared.clock.Clock.{Clock}
+use Rattle.rules.specs.declared.thread.Thread.{Thread}
+use Rattle.rules.specs.Ground.{unpark}
+use Rattle.threads.proofs.Data.{thread, clock}
+use Rattle.threads.proofs.unparked.Symbol as g
+use Rattle.threads.proofs.unparked.Met as g-thm
+use Rattle.threads.proofs.unpark as f
+use Rattle.threads.proofs.unpark.Key.{name as #f}
+use Rattle.threads.proofs.unpark.Statement as stated
+use Rattle.threads.proofs.unpark.Code as code
+
+pub unpark-spec : {M : Type 1} → stated.statement M
+unfolding code.routine
+unpark-spec 𝓤 H 𝓜 𝓖 𝓡 =
+    lent thread clock 𝓤 H 𝓜 𝓖 𝓡 (λ (t : Thread) (by : Clock) (r : Thread). r ≡ unpark by t) (f.clauses 𝓤 H (𝓖 .A) (𝓜 .mem) (𝓡 .run)) code.env #f g.name g.routine
+    (λ κs a y r e. factI 𝓤 _ (emp 𝓤) e) (code.unfolded 𝓤 H 𝓜 𝓡) refl (g-thm.met 𝓤 H 𝓜 𝓖 𝓡)
