@@ -107,7 +107,7 @@ fn unpark_state(s: State) -> State
 }
 
 // The clock `by` is joined in, also into a thread that has ended.
-pub(crate) fn unpark(t: Thread, by: Clock) -> Thread
+pub fn unpark(t: Thread, by: Clock) -> Thread
     ensures { λ r. ⌜ r ≡ unpark by t ⌝ }
 {
     let state = t.state;
@@ -152,7 +152,7 @@ pub fn is_ended(s: State) -> bool
 }
 
 // Whether a phase announces an operation on the object.
-pub(crate) fn is_on(p: Phase, object: ObjectId) -> bool
+pub fn is_on(p: Phase, object: ObjectId) -> bool
     ensures { λ r. ⌜ r ≡ isOn object p ⌝ }
 {
     match p {

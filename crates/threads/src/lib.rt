@@ -1,6 +1,6 @@
 // Thread records that are lent: one record by `&mut`, and a slice of them (loom's rt/thread.rs, and the loops over `threads.iter_mut()`).
 ghost use mathlib.Core.Path.{_≡_};
-ghost use Rattle.rules.specs.Ground.{setRunnable, setBlocked, unparkState, unpark, isOn, others};
+ghost use Rattle.rules.specs.Ground.{setRunnable, setBlocked, unpark, others};
 ghost use Rattle.rules.specs.declared.thread.Change.the-variants.{Wake, Block};
 ghost use Rattle.rules.specs.declared.thread.State.the-variants.{Runnable, Blocked};
 ghost use Rattle.threads.specs.Passes.{statedAt};
@@ -8,43 +8,8 @@ use clocks::Clock;
 use clocks::ThreadId;
 use objects::thread;
 use rules::object::ObjectId;
-use rules::thread::Phase;
 use rules::thread::State;
 use rules::thread::Thread;
-
-fn unparked_state(s: State) -> State
-    ensures { λ r. ⌜ r ≡ unparkState s ⌝ }
-{
-    match s {
-        State::Runnable => State::Unparked,
-        State::Unparked => State::Unparked,
-        State::Blocked => State::Runnable,
-        State::Ended => State::Ended,
-    }
-}
-
-// The unpark by value.
-fn unparked(t: Thread, by: Clock) -> Thread
-    ensures { λ r. ⌜ r ≡ unpark by t ⌝ }
-{
-    let state = t.state;
-    let clock = t.clock;
-    let mut u = thread::with_state(t, unparked_state(state));
-    u.clock = clock.join(by);
-    u
-}
-
-// Whether a phase announces an operation on the object.
-fn is_on(p: Phase, object: ObjectId) -> bool
-    ensures { λ r. ⌜ r ≡ isOn object p ⌝ }
-{
-    match p {
-        Phase::Nothing => false,
-        Phase::Announced(op) => op.obj.0 == object.0,
-        Phase::Parked => false,
-        Phase::Retaking(op) => op.obj.0 == object.0,
-    }
-}
 
 // The record of thread `k` with the state `s`, if it is announced on the object, unless it is the active one.
 fn stated_at(t: Thread, k: usize, object: ObjectId, active: ThreadId, s: State) -> Thread
@@ -55,7 +20,7 @@ fn stated_at(t: Thread, k: usize, object: ObjectId, active: ThreadId, s: State) 
         return t;
     }
     let phase = t.phase;
-    if is_on(phase, object) {
+    if thread::is_on(phase, object) {
         return thread::with_state(t, s);
     }
     t
@@ -91,7 +56,7 @@ pub fn set_blocked(t: &mut Thread)
 pub fn unpark(t: &mut Thread, by: Clock)
     ensures { λ _. ⌜ now (t .exit) ≡ unpark by (now (t .entry)) ⌝ }
 {
-    *t = unparked(*t, by);
+    *t = thread::unpark(*t, by);
 }
 
 // Wakes every other thread that is announced on the object; the record at index k is thread k's.

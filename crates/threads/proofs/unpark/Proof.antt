@@ -7,8 +7,8 @@ use Rattle.clocks.specs.declared.clock.Clock.{Clock}
 use Rattle.rules.specs.declared.thread.Thread.{Thread}
 use Rattle.rules.specs.Ground.{unpark}
 use Rattle.threads.proofs.Data.{thread, clock}
-use Rattle.threads.proofs.unparked.Symbol as g
-use Rattle.threads.proofs.unparked.Met as g-thm
+use Rattle.objects.proofs.thread.unpark.Symbol as g
+use Rattle.objects.proofs.thread.unpark.Met as g-thm
 use Rattle.threads.proofs.unpark as f
 use Rattle.threads.proofs.unpark.Key.{name as #f}
 use Rattle.threads.proofs.unpark.Statement as stated
