@@ -1,0 +1,1 @@
+// How far the counts of a run can rise: laws only, in specs/.
