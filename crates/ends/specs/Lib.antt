@@ -3,3 +3,10 @@ pub mod Each
 pub mod All
 pub mod Turns
 pub mod Counts
+pub mod Kept
+pub mod Place
+pub mod Moves
+pub mod Weight
+pub mod Others
+pub mod Own
+pub mod Clocks
