@@ -10,3 +10,4 @@ pub mod Weight
 pub mod Others
 pub mod Own
 pub mod Clocks
+pub mod Ends
