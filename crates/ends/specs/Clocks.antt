@@ -27,7 +27,7 @@ use Rattle.rules.specs.Judge.{step}
 use Rattle.walk.specs.Falling.{Good, Ready}
 use Rattle.ends.specs.Reached.{Reached, run-by, reached-good}
 use Rattle.ends.specs.All.{all-pass, all-same, all-map}
-use Rattle.ends.specs.Each.{Each, Begins, Answers, each-both, decide-each, wanted-passes}
+use Rattle.ends.specs.Each.{AnyOp, any-left, Each, Begins, Answers, each-both, decide-each, wanted-passes}
 use Rattle.ends.specs.Kept.{Object, One, new-object, last-version}
 use Rattle.ends.specs.Place.{At, zero-at, join-at-most}
 use Rattle.ends.specs.Moves.{Clocks, more}
@@ -64,23 +64,23 @@ module _ (k : ℕ) where
     MidOf true m v = Mid k m v
     MidOf false m v = Clocks k (h .bound) (Stay k (h .bound)) (v .threads) (v .objects)
 
-    begins : (t : ThreadId) → t .0 < 6 → Begins table w t (Spare k) (MidOf (eqb (t .0) k)) (Bounded k)
+    begins : (t : ThreadId) → t .0 < 6 → Begins table w t AnyOp (Spare k) (MidOf (eqb (t .0) k)) (Bounded k)
     begins t l = go (eqb (t .0) k) refl
       where
-        go : (b : Bool) → eqb (t .0) k ≡ b → Begins table w t (Spare k) (MidOf b) (Bounded k)
+        go : (b : Bool) → eqb (t .0) k ≡ b → Begins table w t AnyOp (Spare k) (MidOf b) (Bounded k)
         go true e = own-begins k t l (eqb-true (t .0) k e) table n w (h .bound) (h .clocks)
         go false e = other-begins k t l (λ f. eqb-false (t .0) k e (sym f)) (h .bound) table w (h .clocks)
 
-    answers : (t : ThreadId) → Ready table (asked.Thread t) (w .threads) → Answers table w t (Bounded k)
+    answers : (t : ThreadId) → Ready table (asked.Thread t) (w .threads) → Answers table w t AnyOp (Bounded k)
     answers t r =
         split (eqb (t .0) k) (λ e. own-answers k t (r .0) (eqb-true (t .0) k e) table n w (h .bound) (h .clocks) r)
         (λ e. other-answers k t (r .0) (λ f. eqb-false (t .0) k e (sym f)) (h .bound) table w (h .clocks))
 
     decide-bounded : (d : ℕ) (v : World) → step table w d ≡ outcome.wants v → Bounded k v
-    decide-bounded = wanted-passes table n w g (Spare k) (λ t. MidOf (eqb (t .0) k)) (Bounded k) h begins answers
+    decide-bounded = wanted-passes table n w g AnyOp (any-left table w) tt (Spare k) (λ t. MidOf (eqb (t .0) k)) (Bounded k) h begins answers
 
     each-spare : (d : ℕ) → Each (Spare k) table w d
-    each-spare = decide-each table n w g (Spare k) (λ t. MidOf (eqb (t .0) k)) (Bounded k) h begins answers
+    each-spare = decide-each table n w g AnyOp (any-left table w) tt (Spare k) (λ t. MidOf (eqb (t .0) k)) (Bounded k) h begins answers
 
 -- every world that a run of an accepted table reaches
 module _ (bs list : List ℕ) (table : Table) (w : World) (a : readTable bs ≡ accepted table) (e : Reached table list w) where

@@ -49,7 +49,7 @@ use Rattle.rules.specs.Turn.{threadIn, entryIn, start, operate, wait, opsLeft, 
 use Rattle.rules.specs.Judge.{step}
 use Rattle.walk.specs.Falling.{Good}
 use Rattle.ends.specs.Reached.{Reached, run-by, reached-good}
-use Rattle.ends.specs.Each.{Each, Passes, Begins, Answers, accessed, recorded, inEffect, waiting, decide-each, wanted-passes}
+use Rattle.ends.specs.Each.{Each, AnyOp, any-left, Passes, Begins, Answers, accessed, recorded, inEffect, waiting, decide-each, wanted-passes}
 use Rattle.ends.specs.All.{All, all-set, all-map}
 
 -- a thread has at most 32 operations left
@@ -93,14 +93,14 @@ module _ (N : Entry → ℕ) (slow : Slow N) where
     abbrev Mid : ThreadId → ℕ → World → Type 0
     Mid t m v = (m ≤ 32) × Few (b + 32 - m) v
 
-    passes : (t : ThreadId) → Passes t Below (Mid t) (Few (b + 32))
+    passes : (t : ThreadId) → Passes t AnyOp Below (Mid t) (Few (b + 32))
     passes t =
         record {
           sees = λ m v op f i. omega (arith, i .0, i .1 (op .object .0), low);
           shows = λ m v i. few-more _ _ v (omega arith) (i .1);
           asks = λ m v i. few-more _ _ v (omega arith) (i .1);
           ends = λ m v i. few-more _ _ v (omega arith) (i .1);
-          announces = λ m v op e i. few-more _ _ v (omega arith) (i .1);
+          announces = λ m v op e f i. few-more _ _ v (omega arith) (i .1);
           goes =
               λ m v op f i. (
                 omega (arith, i .0),
@@ -121,22 +121,22 @@ module _ (N : Entry → ℕ) (slow : Slow N) where
     unfolding wait
     waited t m v h = all-set (λ k x. N x ≤ b + 32) (newEntry noObject) (v .objects) (m .0) _ h (slow .frees (b + 32) (entryIn v m) (mutex.releaseLock t m (entryIn v m .mutex) (v .threads) .state) (h (m .0)))
 
-    begins : (t : ThreadId) → Begins table w t Below (Mid t) (Few (b + 32))
+    begins : (t : ThreadId) → Begins table w t AnyOp Below (Mid t) (Few (b + 32))
     begins t =
         record {
           passes = passes t;
           nothing = λ e. (left-few table n w t, few-more _ _ w (omega (arith, left-few table n w t)) few);
           effects = λ op. below _ _ _ (slow .records b (actionOf (op .call)) (accessed t op w) (entryIn w (op .object)) (few (op .object .0))) (omega (arith, low));
           operates = λ op m e. (omega (arith, e, left-few table n w t), λ k. omega (arith, e, left-few table n w t, after t op k));
-          waits = λ op a m e f. waited t m (inEffect t op w) (few-more _ _ (inEffect t op w) (omega arith) (after t op));
-          retakes = λ m e. few-more _ _ w (omega arith) few;
+          waits = λ op a m o e f. waited t m (inEffect t op w) (few-more _ _ (inEffect t op w) (omega arith) (after t op));
+          retakes = λ m o e. few-more _ _ w (omega arith) few;
         }
 
-    answers : (t : ThreadId) → Answers table w t (Few (b + 32))
+    answers : (t : ThreadId) → Answers table w t AnyOp (Few (b + 32))
     unfolding spurious
     answers t =
         record {
-          goes = λ op. few-more _ _ w (omega arith) few;
+          goes = λ op f. few-more _ _ w (omega arith) few;
           wakes =
               λ op.
               all-set (λ k x. N x ≤ b + 32) (newEntry noObject) (w .objects) (op .object .0) _ (few-more _ _ w (omega arith) few)
@@ -144,10 +144,10 @@ module _ (N : Entry → ℕ) (slow : Slow N) where
         }
 
     decide-few : (d : ℕ) (v : World) → step table w d ≡ outcome.wants v → Few (b + 32) v
-    decide-few = wanted-passes table n w g Below Mid (Few (b + 32)) (few-more _ _ w (omega arith) few) (λ t l. begins t) (λ t r. answers t)
+    decide-few = wanted-passes table n w g AnyOp (any-left table w) tt Below Mid (Few (b + 32)) (few-more _ _ w (omega arith) few) (λ t l. begins t) (λ t r. answers t)
 
     each-below : (d : ℕ) → Each Below table w d
-    each-below = decide-each table n w g Below Mid (Few (b + 32)) (few-more _ _ w (omega arith) few) (λ t l. begins t) (λ t r. answers t)
+    each-below = decide-each table n w g AnyOp (any-left table w) tt Below Mid (Few (b + 32)) (few-more _ _ w (omega arith) few) (λ t l. begins t) (λ t r. answers t)
 
   -- u decisions take it to 1 + 32 u at most
   pub run-few : (bs list : List ℕ) (table : Table) (w : World) → readTable bs ≡ accepted table → Reached table list w → Few 18625 w

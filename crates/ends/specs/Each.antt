@@ -38,7 +38,7 @@ use Rattle.rules.specs.Table.{noOp}
 use Rattle.rules.specs.TableLaws.{by-test, Within}
 use Rattle.rules.specs.Announce.{isFree, actionOf, asks}
 use Rattle.rules.specs.Effect.{effect}
-use Rattle.rules.specs.Turn.{threadIn, entryIn, withThreads, withTurn, withAsked, announceOp, retake, dependence, operate, advance, ended, wait, settled, endingOf, goOn, thereafter, operation, turnOf, opsLeft, begin, spurious, question, decideAt, decide}
+use Rattle.rules.specs.Turn.{threadIn, entryIn, withThreads, withTurn, withAsked, announceOp, retake, dependence, operate, advance, ended, wait, settled, endingOf, goOn, thereafter, operation, mutexOf, turnOf, opsLeft, begin, spurious, question, decideAt, decide}
 use Rattle.rules.specs.Judge.{outcomeOf, step}
 use Rattle.walk.specs.Stage.{SoundIn}
 use Rattle.walk.specs.Falling.{Good, Ready, sound-here, runnable-within}
@@ -105,23 +105,38 @@ module _ (Q : ThreadId → Call → Entry → List Thread → Type 0) where
   abbrev pub Each : Table → World → ℕ → Type 0
   Each table w d = OnAsked (w .asked) table w d
 
+-- `F` of each operation of a list
+abbrev pub Ops : (Op → Type 0) → List Op → Type 0
+Ops F [] = Unit {0}
+Ops F (op ∷ ops) = F op × Ops F ops
+
+abbrev pub AnyOp : Op → Type 0
+AnyOp op = Unit {0}
+
+any-ops : (ops : List Op) → Ops AnyOp ops
+any-ops [] = tt
+any-ops (op ∷ ops) = (tt, any-ops ops)
+
+pub any-left : (table : Table) (w : World) (t : ThreadId) → Ops AnyOp (opsLeft table w t)
+any-left table w t = any-ops (opsLeft table w t)
+
 -- In a turn of t that has n operations left, `I n` holds of each world between two effects; of the worlds that a decision leaves, `J`.
-pub record Passes (t : ThreadId) (Q : ThreadId → Call → Entry → List Thread → Type 0) (I : ℕ → World → Type 0) (J : World → Type 0) : Type 0 where
+pub record Passes (t : ThreadId) (F : Op → Type 0) (Q : ThreadId → Call → Entry → List Thread → Type 0) (I : ℕ → World → Type 0) (J : World → Type 0) : Type 0 where
   pub sees : (n : ℕ) (w : World) (op : Op) → isFree (op .call) ≡ true → I (suc n) w → Q t (op .call) (entryIn w (op .object)) (w .threads)
   pub shows : (n : ℕ) (w : World) → I n w → J w
   pub asks : (n : ℕ) (w : World) → I n w → J (withAsked w (asked.Thread t))
   pub ends : (n : ℕ) (w : World) → I n w → J (withThreads w (ended t (w .threads)))
-  pub announces : (n : ℕ) (w : World) (op : Op) (e : Entry) → I n w → J (withThreads w (announceOp t op e (w .threads)))
+  pub announces : (n : ℕ) (w : World) (op : Op) (e : Entry) → F op → I n w → J (withThreads w (announceOp t op e (w .threads)))
   pub goes : (n : ℕ) (w : World) (op : Op) → isFree (op .call) ≡ true → I (suc n) w → I n (onward t op w)
 
 -- what a turn of t in the world w takes besides
-pub record Begins (table : Table) (w : World) (t : ThreadId) (Q : ThreadId → Call → Entry → List Thread → Type 0) (I : ℕ → World → Type 0) (J : World → Type 0) : Type 0 where
-  pub passes : Passes t Q I J
+pub record Begins (table : Table) (w : World) (t : ThreadId) (F : Op → Type 0) (Q : ThreadId → Call → Entry → List Thread → Type 0) (I : ℕ → World → Type 0) (J : World → Type 0) : Type 0 where
+  pub passes : Passes t F Q I J
   pub nothing : threadIn w t .phase ≡ Nothing → I (length (opsLeft table w t)) (withTurn w (risen 65535 (w .turn)))
   pub effects : (op : Op) → Q t (op .call) (recorded t op w) (dependent t op w)
   pub operates : (op : Op) (n : ℕ) → suc n ≡ length (opsLeft table w t) → I n (further t (inEffect t op w))
-  pub waits : (op : Op) (a : Operation) (m : ObjectId) → threadIn w t .phase ≡ Announced a → op .call ≡ Condvar (condvar-call.Wait m) → J (waiting t m (inEffect t op w))
-  pub retakes : (m : ObjectId) → threadIn w t .phase ≡ Parked → J (withThreads (withTurn w (risen 65535 (w .turn))) (retake t m (entryIn w m) (w .threads)))
+  pub waits : (op : Op) (a : Operation) (m : ObjectId) → op ≡ getD (opsLeft table w t) 0 noOp → threadIn w t .phase ≡ Announced a → op .call ≡ Condvar (condvar-call.Wait m) → J (waiting t m (inEffect t op w))
+  pub retakes : (m : ObjectId) → m ≡ mutexOf (getD (opsLeft table w t) 0 noOp .call) → threadIn w t .phase ≡ Parked → J (withThreads (withTurn w (risen 65535 (w .turn))) (retake t m (entryIn w m) (w .threads)))
 
 -- an ending: a failing step shows the world before it
 ending-passes : (J : World → Type 0) (e : Ending) (s : Spot) (shown : World) (next : Decided) → J shown → J (next .world) → J (endingOf e s shown next .world)
@@ -131,34 +146,34 @@ ending-passes J ending.Misuse s shown next j k = j
 ending-passes J ending.NoRoom s shown next j k = j
 ending-passes J (ending.Race o) s shown next j k = j
 
-module _ (t : ThreadId) (Q : ThreadId → Call → Entry → List Thread → Type 0) (I : ℕ → World → Type 0) (J : World → Type 0) (h : Passes t Q I J) where
+module _ (t : ThreadId) (F : Op → Type 0) (Q : ThreadId → Call → Entry → List Thread → Type 0) (I : ℕ → World → Type 0) (J : World → Type 0) (h : Passes t F Q I J) where
   -- through operations that need no announcement
-  go-passes : (ops : List Op) (w : World) → I (length ops) w → J (goOn t ops w .world)
+  go-passes : (ops : List Op) → Ops F ops → (w : World) → I (length ops) w → J (goOn t ops w .world)
   unfolding goOn
-  go-passes [] w i = h .ends 0 w i
-  go-passes (op ∷ ops) w i =
+  go-passes [] o w i = h .ends 0 w i
+  go-passes (op ∷ ops) o w i =
       by-test (λ (r : Decided). J (r .world)) (isFree (op .call))
-      (λ f. ending-passes J _ _ w _ (h .shows _ w i) (go-passes ops (onward t op w) (h .goes _ w op f i)))
-      (λ f. by-test (λ (r : Decided). J (r .world)) (asks (op .call) (entryIn w (op .object))) (λ a. h .asks _ w i) (λ a. h .announces _ w op _ i))
+      (λ f. ending-passes J _ _ w _ (h .shows _ w i) (go-passes ops (o .1) (onward t op w) (h .goes _ w op f i)))
+      (λ f. by-test (λ (r : Decided). J (r .world)) (asks (op .call) (entryIn w (op .object))) (λ a. h .asks _ w i) (λ a. h .announces _ w op _ (o .0) i))
 
   go-each : (ops : List Op) (w : World) → I (length ops) w → OnGo Q t ops w
   go-each [] w i = tt
   go-each (op ∷ ops) w i = λ f. (h .sees _ w op f i, go-each ops (onward t op w) (h .goes _ w op f i))
 
   -- an announced operation
-  module _ (op : Op) (ops : List Op) (w : World) (before : J w) (done : I (length ops) (further t (inEffect t op w)))
+  module _ (op : Op) (ops : List Op) (o : Ops F ops) (w : World) (before : J w) (done : I (length ops) (further t (inEffect t op w)))
       (waits : (m : ObjectId) → op .call ≡ Condvar (condvar-call.Wait m) → J (waiting t m (inEffect t op w))) where
     then-passes : (c : Call) → op .call ≡ c → J (thereafter c t ops (inEffect t op w) .world)
     unfolding thereafter
-    then-passes (Mutex c) e = go-passes ops _ done
-    then-passes (RwLock c) e = go-passes ops _ done
+    then-passes (Mutex c) e = go-passes ops o _ done
+    then-passes (RwLock c) e = go-passes ops o _ done
     then-passes (Condvar (condvar-call.Wait m)) e = waits m e
-    then-passes (Condvar condvar-call.NotifyOne) e = go-passes ops _ done
-    then-passes (Condvar condvar-call.NotifyAll) e = go-passes ops _ done
-    then-passes (Notify c) e = go-passes ops _ done
-    then-passes (Channel c) e = go-passes ops _ done
-    then-passes (Arc c) e = go-passes ops _ done
-    then-passes (Cell c) e = go-passes ops _ done
+    then-passes (Condvar condvar-call.NotifyOne) e = go-passes ops o _ done
+    then-passes (Condvar condvar-call.NotifyAll) e = go-passes ops o _ done
+    then-passes (Notify c) e = go-passes ops o _ done
+    then-passes (Channel c) e = go-passes ops o _ done
+    then-passes (Arc c) e = go-passes ops o _ done
+    then-passes (Cell c) e = go-passes ops o _ done
 
     operation-passes : J (operation t op ops w .world)
     unfolding operation
@@ -169,32 +184,40 @@ tail-length : (ops : List Op) → 0 < length ops → suc (length (drop 1 ops)) �
 tail-length [] l = absurd (omega (arith, l))
 tail-length (op ∷ ops) l = refl
 
-module _ (table : Table) (w : World) (t : ThreadId) (Q : ThreadId → Call → Entry → List Thread → Type 0) (I : ℕ → World → Type 0) (J : World → Type 0) (b : Begins table w t Q I J) where
-  turn-passes : J w → (f : Phase) → threadIn w t .phase ≡ f → SoundIn f (opsLeft table w t) → J (turnOf f t (opsLeft table w t) w .world)
+tail-ops : (F : Op → Type 0) (ops : List Op) → Ops F ops → Ops F (drop 1 ops)
+tail-ops F [] o = tt
+tail-ops F (op ∷ ops) o = o .1
+
+module _ (table : Table) (w : World) (t : ThreadId) (F : Op → Type 0) (Q : ThreadId → Call → Entry → List Thread → Type 0) (I : ℕ → World → Type 0) (J : World → Type 0) (b : Begins table w t F Q I J) where
+  turn-passes : Ops F (opsLeft table w t) → J w → (f : Phase) → threadIn w t .phase ≡ f → SoundIn f (opsLeft table w t) → J (turnOf f t (opsLeft table w t) w .world)
   unfolding turnOf
-  turn-passes j Nothing e s = go-passes t Q I J (b .passes) _ _ (b .nothing e)
-  turn-passes j (Announced p) e s = operation-passes t Q I J (b .passes) _ _ w j (b .operates _ _ (tail-length (opsLeft table w t) s)) (λ m q. b .waits _ p m e q)
-  turn-passes j Parked e s = b .retakes _ e
-  turn-passes j (Retaking p) e s =
-      operation-passes t Q I J (b .passes) _ _ w j (b .operates _ _ (tail-length (opsLeft table w t) s)) (λ m q. let z : _≡_ {A = ℕ} 0 1 = cc in absurd (omega (arith, z)))
+  turn-passes o j Nothing e s = go-passes t F Q I J (b .passes) (opsLeft table w t) o _ (b .nothing e)
+  turn-passes o j (Announced p) e s = operation-passes t F Q I J (b .passes) _ (drop 1 (opsLeft table w t)) (tail-ops F (opsLeft table w t) o) w j (b .operates _ _ (tail-length (opsLeft table w t) s)) (λ m q. b .waits _ p m refl e q)
+  turn-passes o j Parked e s = b .retakes _ refl e
+  turn-passes o j (Retaking p) e s =
+      operation-passes t F Q I J (b .passes) _ (drop 1 (opsLeft table w t)) (tail-ops F (opsLeft table w t) o) w j (b .operates _ _ (tail-length (opsLeft table w t) s)) (λ m q. let z : _≡_ {A = ℕ} 0 1 = cc in absurd (omega (arith, z)))
 
   operated : (op : Op) → 0 < length (opsLeft table w t) → OnOperation Q t op (drop 1 (opsLeft table w t)) w
-  operated op s = (b .effects op, go-each t Q I J (b .passes) (drop 1 (opsLeft table w t)) _ (b .operates op _ (tail-length (opsLeft table w t) s)))
+  operated op s = (b .effects op, go-each t F Q I J (b .passes) (drop 1 (opsLeft table w t)) _ (b .operates op _ (tail-length (opsLeft table w t) s)))
 
   turn-each : (f : Phase) → threadIn w t .phase ≡ f → SoundIn f (opsLeft table w t) → OnTurn Q f t (opsLeft table w t) w
-  turn-each Nothing e s = go-each t Q I J (b .passes) (opsLeft table w t) _ (b .nothing e)
+  turn-each Nothing e s = go-each t F Q I J (b .passes) (opsLeft table w t) _ (b .nothing e)
   turn-each (Announced p) e s = operated (getD (opsLeft table w t) 0 noOp) s
   turn-each Parked e s = tt
   turn-each (Retaking p) e s = operated (record { call = Mutex mutex-call.AcquireLock; object = p .obj }) s
 
+first-op : (F : Op → Type 0) (ops : List Op) → F noOp → Ops F ops → F (getD ops 0 noOp)
+first-op F [] n o = n
+first-op F (op ∷ ops) n o = o .0
+
 -- what the answer to a question leaves
-pub record Answers (table : Table) (w : World) (t : ThreadId) (J : World → Type 0) : Type 0 where
-  pub goes : (op : Op) → J (withThreads (withAsked w asked.Nobody) (announceOp t op (entryIn w (op .object)) (w .threads)))
+pub record Answers (table : Table) (w : World) (t : ThreadId) (F : Op → Type 0) (J : World → Type 0) : Type 0 where
+  pub goes : (op : Op) → F op → J (withThreads (withAsked w asked.Nobody) (announceOp t op (entryIn w (op .object)) (w .threads)))
   pub wakes : (op : Op) → J (spurious t op (withAsked w asked.Nobody))
 
-module _ (table : Table) (n : Within table) (w : World) (g : Good table w) (Q : ThreadId → Call → Entry → List Thread → Type 0) (I : ThreadId → ℕ → World → Type 0) (J : World → Type 0)
-    (before : J w) (begins : (t : ThreadId) → t .0 < 6 → Begins table w t Q (I t) J)
-    (answers : (t : ThreadId) → Ready table (asked.Thread t) (w .threads) → Answers table w t J) where
+module _ (table : Table) (n : Within table) (w : World) (g : Good table w) (F : Op → Type 0) (fine : (t : ThreadId) → Ops F (opsLeft table w t)) (none : F noOp) (Q : ThreadId → Call → Entry → List Thread → Type 0) (I : ThreadId → ℕ → World → Type 0) (J : World → Type 0)
+    (before : J w) (begins : (t : ThreadId) → t .0 < 6 → Begins table w t F Q (I t) J)
+    (answers : (t : ThreadId) → Ready table (asked.Thread t) (w .threads) → Answers table w t F J) where
   -- what a decision leaves
   pub decide-passes : (d : ℕ) → J (decide table w d .world)
   unfolding decide decideAt begin question
@@ -204,11 +227,11 @@ module _ (table : Table) (n : Within table) (w : World) (g : Good table w) (Q : 
       go asked.Nobody e =
           let t : ThreadId = record { 0 = d } in
           by-test (λ (r : Decided). J (r .world)) (isRunnable (threadIn w t .state))
-          (λ r. let l = runnable-within table w g (step-on table n) t r in turn-passes table w t Q (I t) J (begins t l) before (threadIn w t .phase) refl (sound-here table w g (step-on table n) t l))
+          (λ r. let l = runnable-within table w g (step-on table n) t r in turn-passes table w t F Q (I t) J (begins t l) (fine t) before (threadIn w t .phase) refl (sound-here table w g (step-on table n) t l))
           (λ r. before)
       go (asked.Thread t) e =
           let a = answers t (subst (λ (x : Asked). Ready table x (w .threads)) e (g .ready)) in
-          by-test (λ (r : Decided). J (r .world)) (eqb d 0) (λ z. a .goes _) (λ z. by-test (λ (r : Decided). J (r .world)) (eqb d 1) (λ o. a .wakes _) (λ o. before))
+          by-test (λ (r : Decided). J (r .world)) (eqb d 0) (λ z. a .goes _ (first-op F (opsLeft table w t) none (fine t))) (λ z. by-test (λ (r : Decided). J (r .world)) (eqb d 1) (λ o. a .wakes _) (λ o. before))
 
   -- what holds before each of its effects
   pub decide-each : (d : ℕ) → Each Q table w d
@@ -219,7 +242,7 @@ module _ (table : Table) (n : Within table) (w : World) (g : Good table w) (Q : 
           λ r.
           let t : ThreadId = record { 0 = d } in
           let l = runnable-within table w g (step-on table n) t r in
-          turn-each table w t Q (I t) J (begins t l) (threadIn w t .phase) refl (sound-here table w g (step-on table n) t l)
+          turn-each table w t F Q (I t) J (begins t l) (threadIn w t .phase) refl (sound-here table w g (step-on table n) t l)
       go (asked.Thread t) e = tt
 
   pub wanted-passes : (d : ℕ) (v : World) → step table w d ≡ outcome.wants v → J v

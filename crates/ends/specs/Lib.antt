@@ -11,3 +11,6 @@ pub mod Others
 pub mod Own
 pub mod Clocks
 pub mod Ends
+pub mod Named
+pub mod Range
+pub mod Phases

@@ -21,7 +21,7 @@ use Rattle.rules.specs.Mutex as mutex
 use Rattle.rules.specs.TableLaws.{by-test}
 use Rattle.rules.specs.Effect.{effect, mutexEffect}
 use Rattle.rules.specs.Turn.{threadIn, entryIn, announceOp, retake, advance, ended, park, wait, spurious}
-use Rattle.ends.specs.Each.{Passes, Begins, Answers, inEffect, waiting}
+use Rattle.ends.specs.Each.{AnyOp, Passes, Begins, Answers, inEffect, waiting}
 use Rattle.ends.specs.Kept.{mutex-kept, notify-put}
 use Rattle.ends.specs.Place.{At, zero-at, join-at-most, inc-other}
 use Rattle.ends.specs.Moves.{Clocks, announced-one, put, place, effect-at, in-effect-at}
@@ -68,7 +68,7 @@ module _ (k : ℕ) (t : ThreadId) (within : t .0 < 6) (other : k ≢ t .0) (b : 
       let g : Kept (mutex.releaseLock t m (entryIn v m .mutex) (v .threads) .threads) (v .objects) = record { threads = r .0; objects = h .objects } in
       place k b (Stay k b) _ (v .objects) m _ (other-park m _ _ (v .objects) g) (r .1)
 
-  other-passes : Passes t (Spare k) (λ n v. Kept (v .threads) (v .objects)) (Bounded k)
+  other-passes : Passes t AnyOp (Spare k) (λ n v. Kept (v .threads) (v .objects)) (Bounded k)
   unfolding ended announceOp
   other-passes =
       record {
@@ -76,11 +76,11 @@ module _ (k : ℕ) (t : ThreadId) (within : t .0 < 6) (other : k ≢ t .0) (b : 
         shows = λ n v h. record { bound = b; clocks = h };
         asks = λ n v h. record { bound = b; clocks = h };
         ends = λ n v h. record { bound = b; clocks = other-put (v .threads) (v .objects) _ refl refl h };
-        announces = λ n v op e h. record { bound = b; clocks = other-announced (v .threads) (v .objects) _ _ h };
+        announces = λ n v op e f h. record { bound = b; clocks = other-announced (v .threads) (v .objects) _ _ h };
         goes = λ n v op f h. other-advance _ _ (other-effect v op h);
       }
 
-  pub other-begins : (table : Table) (w : World) → Kept (w .threads) (w .objects) → Begins table w t (Spare k) (λ n v. Kept (v .threads) (v .objects)) (Bounded k)
+  pub other-begins : (table : Table) (w : World) → Kept (w .threads) (w .objects) → Begins table w t AnyOp (Spare k) (λ n v. Kept (v .threads) (v .objects)) (Bounded k)
   unfolding retake
   other-begins table w h =
       let after : (op : Op) → Kept (inEffect t op w .threads) (inEffect t op w .objects) =
@@ -90,15 +90,15 @@ module _ (k : ℕ) (t : ThreadId) (within : t .0 < 6) (other : k ≢ t .0) (b : 
         nothing = λ e. h;
         effects = λ op e. absurd (other (sym e));
         operates = λ op n e. other-advance _ _ (after op);
-        waits = λ op a m e f. record { bound = b; clocks = other-wait m (inEffect t op w) (after op) };
-        retakes = λ m e. record { bound = b; clocks = other-announced (w .threads) (w .objects) _ _ h };
+        waits = λ op a m o e f. record { bound = b; clocks = other-wait m (inEffect t op w) (after op) };
+        retakes = λ m o e. record { bound = b; clocks = other-announced (w .threads) (w .objects) _ _ h };
       }
 
-  pub other-answers : (table : Table) (w : World) → Kept (w .threads) (w .objects) → Answers table w t (Bounded k)
+  pub other-answers : (table : Table) (w : World) → Kept (w .threads) (w .objects) → Answers table w t AnyOp (Bounded k)
   unfolding announceOp spurious
   other-answers table w h =
       record {
-        goes = λ op. record { bound = b; clocks = other-announced (w .threads) (w .objects) _ _ h };
+        goes = λ op f. record { bound = b; clocks = other-announced (w .threads) (w .objects) _ _ h };
         wakes =
             λ op.
             record {

@@ -26,7 +26,7 @@ use Rattle.rules.specs.Effect.{effect, mutexEffect}
 use Rattle.rules.specs.Turn.{threadIn, entryIn, announceOp, retake, advance, ended, park, wait, opsLeft, spurious}
 use Rattle.walk.specs.Shape.{Shape}
 use Rattle.walk.specs.Falling.{Ready}
-use Rattle.ends.specs.Each.{Passes, Begins, Answers, dependent, inEffect, waiting}
+use Rattle.ends.specs.Each.{AnyOp, Passes, Begins, Answers, dependent, inEffect, waiting}
 use Rattle.ends.specs.Kept.{mutex-kept, notify-put}
 use Rattle.ends.specs.Place.{At, zero-at, join-at-most, inc-at}
 use Rattle.ends.specs.Moves.{Clocks, announced-one, more, marks, put, place, effect-at, dependent-at, in-effect-at}
@@ -73,7 +73,7 @@ module _ (k : ℕ) (t : ThreadId) (within : t .0 < 6) (it : t .0 ≡ k) where
   own-effect b p v op h =
       effect-at k b (suc b) (omega arith) t (λ x. inc-at k b x t) (Going k p) (op .call) (op .object) (entryIn v (op .object)) (v .threads) (v .objects) h (h .objects (op .object .0))
 
-  own-passes : Passes t (Spare k) (Mid k) (Bounded k)
+  own-passes : Passes t AnyOp (Spare k) (Mid k) (Bounded k)
   unfolding ended announceOp
   own-passes =
       record {
@@ -90,7 +90,7 @@ module _ (k : ℕ) (t : ThreadId) (within : t .0 < 6) (it : t .0 ≡ k) where
               clocks = stays (i .position) _ (v .objects) (omega (arith, i .fits)) (own-put (6 * i .position) (i .position) (v .threads) (v .objects) _ refl refl refl refl (i .clocks));
             };
         announces =
-            λ n v op e i.
+            λ n v op e f i.
             record {
               bound = 6 * i .position;
               clocks = own-announced (6 * i .position) (6 * i .position) (i .position) (Going k (i .position)) (v .threads) (v .objects) _ _ (omega (arith, i .fits)) (omega arith) refl (i .clocks .threads .1 (t .0) .2 it .0) (i .clocks);
@@ -155,7 +155,7 @@ module _ (k : ℕ) (t : ThreadId) (within : t .0 < 6) (it : t .0 ≡ k) where
     high : b ≤ 6 * done + 3
     high = omega (arith, weighs, weight-high done (threadIn w t .phase))
 
-    pub own-begins : Begins table w t (Spare k) (Mid k) (Bounded k)
+    pub own-begins : Begins table w t AnyOp (Spare k) (Mid k) (Bounded k)
     unfolding retake
     own-begins =
         let r = room table n w t few in
@@ -167,16 +167,16 @@ module _ (k : ℕ) (t : ThreadId) (within : t .0 < 6) (it : t .0 ≡ k) where
               λ op m e.
               record { position = done + 1; fits = omega (arith, r, e); clocks = own-advance (suc (suc b)) done _ _ (omega (arith, r, e)) (omega (arith, high)) (after op) };
           waits =
-              λ op a m e f.
+              λ op a m o e f.
               let c : b ≡ 6 * done = sym weighs ∙ ap (weightOf done) e in
               record { bound = 6 * done + 3; clocks = own-wait (suc (suc b)) done m (inEffect t op w) few (omega (arith, c)) (after op) };
           retakes =
-              λ m e.
+              λ m o e.
               let c : b ≡ 6 * done + 3 = sym weighs ∙ ap (weightOf done) e in
               record { bound = 6 * done + 3; clocks = own-announced b (6 * done + 3) done (Stay k b) (w .threads) (w .objects) _ _ few (omega (arith, c)) refl refl h };
         }
 
-    pub own-answers : Ready table (asked.Thread t) (w .threads) → Answers table w t (Bounded k)
+    pub own-answers : Ready table (asked.Thread t) (w .threads) → Answers table w t AnyOp (Bounded k)
     unfolding announceOp spurious
     own-answers r =
         let f : threadIn w t .phase ≡ Nothing = ap (λ (s : Shape). s .phase) (r .1) in
@@ -186,7 +186,7 @@ module _ (k : ℕ) (t : ThreadId) (within : t .0 < 6) (it : t .0 ≡ k) where
         let one : 0 < length (opsLeft table w t) = r .2 in
         let y = own-advance (6 * done) done _ (w .objects) (omega (arith, room table n w t few, one)) (omega arith) x in
         record {
-          goes = λ op. record { bound = 6 * done; clocks = own-announced (6 * done) (6 * done) done (Going k done) (w .threads) (w .objects) _ _ few (omega arith) refl refl g };
+          goes = λ op f. record { bound = 6 * done; clocks = own-announced (6 * done) (6 * done) done (Going k done) (w .threads) (w .objects) _ _ few (omega arith) refl refl g };
           wakes =
               λ op.
               record {

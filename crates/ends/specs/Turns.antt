@@ -13,7 +13,7 @@ use Rattle.rules.specs.Turn.{start, spurious}
 use Rattle.rules.specs.Judge.{step}
 use Rattle.walk.specs.Falling.{Good}
 use Rattle.ends.specs.Reached.{Reached, run-by}
-use Rattle.ends.specs.Each.{wanted-passes}
+use Rattle.ends.specs.Each.{AnyOp, any-left, wanted-passes}
 
 -- u decisions take it to u at most
 abbrev Few : ℕ → World → Type 0
@@ -27,17 +27,17 @@ module _ (table : Table) (n : Within table) (u : ℕ) (w : World) (g : Good tabl
   decide-few : (d : ℕ) (v : World) → step table w d ≡ outcome.wants v → Few (suc u) v
   unfolding spurious
   decide-few =
-      wanted-passes table n w g (λ t c e ts. Unit {0}) (λ t m v. Few (suc u) v) (Few (suc u)) (omega (arith, few))
+      wanted-passes table n w g AnyOp (any-left table w) tt (λ t c e ts. Unit {0}) (λ t m v. Few (suc u) v) (Few (suc u)) (omega (arith, few))
       (λ t l.
       record {
-        passes = record { sees = λ m v op f i. tt; shows = λ m v i. i; asks = λ m v i. i; ends = λ m v i. i; announces = λ m v op e i. i; goes = λ m v op f i. i };
+        passes = record { sees = λ m v op f i. tt; shows = λ m v i. i; asks = λ m v i. i; ends = λ m v i. i; announces = λ m v op e f i. i; goes = λ m v op f i. i };
         nothing = λ e. omega (arith, few);
         effects = λ op. tt;
         operates = λ op m e. omega (arith, few);
-        waits = λ op a m e f. omega (arith, few);
-        retakes = λ m e. omega (arith, few);
+        waits = λ op a m o e f. omega (arith, few);
+        retakes = λ m o e. omega (arith, few);
       })
-      (λ t r. record { goes = λ op. omega (arith, few); wakes = λ op. omega (arith, few) })
+      (λ t r. record { goes = λ op f. omega (arith, few); wakes = λ op. omega (arith, few) })
 
 -- in every world that a run of an accepted table reaches, the turn number rises by one
 pub turn-few : (bs list : List ℕ) (table : Table) (w : World) → readTable bs ≡ accepted table → Reached table list w → w .turn ≤ 582
