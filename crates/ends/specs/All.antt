@@ -1,5 +1,5 @@
 -- What holds of each element of a list, by its number, and of the default past its end.
-use mathlib.Core.Path.{sym, _∙_, subst}
+use mathlib.Core.Path.{_≡_, refl, sym, _∙_, ap, subst}
 use mathlib.Core.Logic.{_≢_}
 use mathlib.Core.List.{List, [], _∷_, _++_, map}
 use Prim.Native.Nat.{ℕ, zero, suc, _≤_, _<_}
@@ -58,3 +58,22 @@ pub all-put : {A : Type 0} (P R : ℕ → A → Type 0) (d : A) (xs : List A) (i
 all-put P R d xs i x l on h p k =
     split (eqb k i) (λ e. subst (λ (j : ℕ). R j (getD (set xs i x) j d)) (sym (eqb-true k i e)) (subst (R i) (sym (getD-set-same xs i x d l)) p))
     (λ e. let n : k ≢ i = eqb-false k i e in subst (R k) (sym (getD-set-other xs i k x d n)) (on k (getD xs k d) n (h k)))
+
+-- a list shifted by one, its default last
+pub get-last : {A : Type 0} (d : A) (xs : List A) (k : ℕ) → getD (xs ++ d ∷ []) k d ≡ getD xs k d
+get-last d [] zero = refl
+get-last d [] (suc k) = refl
+get-last d (x ∷ xs) zero = refl
+get-last d (x ∷ xs) (suc k) = get-last d xs k
+
+pub get-rest : {A : Type 0} (d : A) (xs : List A) (k : ℕ) → getD (drop 1 xs) k d ≡ getD xs (suc k) d
+get-rest d [] k = refl
+get-rest d (x ∷ xs) k = refl
+
+last-length : {A : Type 0} (x : A) (xs : List A) → length (xs ++ x ∷ []) ≡ suc (length xs)
+last-length x [] = refl
+last-length x (y ∷ xs) = ap suc (last-length x xs)
+
+pub shift-length : {A : Type 0} (d : A) (xs : List A) → 0 < length xs → length (drop 1 xs ++ d ∷ []) ≡ length xs
+shift-length d [] l = absurd (omega (arith, l))
+shift-length d (x ∷ xs) l = last-length d xs

@@ -14,3 +14,5 @@ pub mod Ends
 pub mod Named
 pub mod Range
 pub mod Phases
+pub mod Queues
+pub mod Ranges

@@ -1,1 +1,1 @@
-// How far the counts of a run can rise: laws only, in specs/.
+// How far the counts of a run can rise, and that what it reads is there: laws only, in specs/.
