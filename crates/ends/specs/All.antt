@@ -11,6 +11,7 @@ use borrow.Author.Tests.{ltb-true, ltb-false, eqb-true, eqb-false}
 use Rattle.clocks.specs.Pass.{passFrom, pass-length, pass-at}
 use Rattle.rules.specs.TableLaws.{split}
 
+-- `P` of each element's number and the element
 abbrev pub All : {A : Type 0} → (ℕ → A → Type 0) → A → List A → Type 0
 All P d xs = (k : ℕ) → P k (getD xs k d)
 
@@ -44,10 +45,12 @@ all-last P d x p q [] h (suc k) = p
 all-last P d x p q (y ∷ xs) h zero = h 0
 all-last P d x p q (y ∷ xs) h (suc k) = all-last P d x p q xs (λ j. h (suc j)) k
 
+-- one less in front
 pub all-rest : {A : Type 0} (P : A → Type 0) (d : A) (xs : List A) → All (λ k. P) d xs → All (λ k. P) d (drop 1 xs)
 all-rest P d [] h k = h k
 all-rest P d (x ∷ xs) h k = h (suc k)
 
+-- a list of one element only
 pub all-same : {A : Type 0} (P : A → Type 0) (d : A) → P d → (n : ℕ) → All (λ k. P) d (replicate n d)
 all-same P d p zero k = p
 all-same P d p (suc n) zero = p
@@ -66,14 +69,17 @@ get-last d [] (suc k) = refl
 get-last d (x ∷ xs) zero = refl
 get-last d (x ∷ xs) (suc k) = get-last d xs k
 
+-- the list without its first
 pub get-rest : {A : Type 0} (d : A) (xs : List A) (k : ℕ) → getD (drop 1 xs) k d ≡ getD xs (suc k) d
 get-rest d [] k = refl
 get-rest d (x ∷ xs) k = refl
 
+-- one more at the end is one longer
 last-length : {A : Type 0} (x : A) (xs : List A) → length (xs ++ x ∷ []) ≡ suc (length xs)
 last-length x [] = refl
 last-length x (y ∷ xs) = ap suc (last-length x xs)
 
+-- a shifted list is as long as before
 pub shift-length : {A : Type 0} (d : A) (xs : List A) → 0 < length xs → length (drop 1 xs ++ d ∷ []) ≡ length xs
 shift-length d [] l = absurd (omega (arith, l))
 shift-length d (x ∷ xs) l = last-length d xs

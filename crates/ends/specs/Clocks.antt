@@ -41,6 +41,7 @@ module _ (k : ℕ) where
   unfolding startThread
   start-thread n j x h = by-test (One (At k 0) (Stay k 0) j) (ltb j n) (λ e. h) (λ e. h)
 
+  -- so nothing is counted
   start-bounded : (table : Table) → Bounded k (start table)
   unfolding start
   start-bounded table =
@@ -64,6 +65,7 @@ module _ (k : ℕ) where
     MidOf true m v = Mid k m v
     MidOf false m v = Clocks k (h .bound) (Stay k (h .bound)) (v .threads) (v .objects)
 
+    -- a turn, of thread k or of another
     begins : (t : ThreadId) → t .0 < 6 → Begins table w t AnyOp (Spare k) (MidOf (eqb (t .0) k)) (Bounded k)
     begins t l = go (eqb (t .0) k) refl
       where
@@ -71,19 +73,23 @@ module _ (k : ℕ) where
         go true e = own-begins k t l (eqb-true (t .0) k e) table n w (h .bound) (h .clocks)
         go false e = other-begins k t l (λ f. eqb-false (t .0) k e (sym f)) (h .bound) table w (h .clocks)
 
+    -- an answer to a question, likewise
     answers : (t : ThreadId) → Ready table (asked.Thread t) (w .threads) → Answers table w t AnyOp (Bounded k)
     answers t r =
         split (eqb (t .0) k) (λ e. own-answers k t (r .0) (eqb-true (t .0) k e) table n w (h .bound) (h .clocks) r)
         (λ e. other-answers k t (r .0) (λ f. eqb-false (t .0) k e (sym f)) (h .bound) table w (h .clocks))
 
+    -- the bound is kept by each decision
     decide-bounded : (d : ℕ) (v : World) → step table w d ≡ outcome.wants v → Bounded k v
     decide-bounded = wanted-passes table n w g AnyOp (any-left table w) tt (Spare k) (λ t. MidOf (eqb (t .0) k)) (Bounded k) h begins answers
 
+    -- and thread k's counts have room before each of its effects
     each-spare : (d : ℕ) → Each (Spare k) table w d
     each-spare = decide-each table n w g AnyOp (any-left table w) tt (Spare k) (λ t. MidOf (eqb (t .0) k)) (Bounded k) h begins answers
 
 -- every world that a run of an accepted table reaches
 module _ (bs list : List ℕ) (table : Table) (w : World) (a : readTable bs ≡ accepted table) (e : Reached table list w) where
+  -- each thread's place of every clock is bounded
   bounded : (k : ℕ) → Bounded k w
   bounded =
       let h = read-within bs table a in
@@ -100,6 +106,7 @@ module _ (bs list : List ℕ) (table : Table) (w : World) (a : readTable bs ≡ 
       let b = bounded k in
       omega (arith, position-few t, weight-high (threadIn w t .position) (threadIn w t .phase), b .clocks .threads .1 k .2 refl .1)
 
+  -- so no count is above 195
   all-few : (k : ℕ) → Clocks k 195 (Stay k (bounded k .bound)) (w .threads) (w .objects)
   all-few k = more k (bounded k .bound) 195 (Stay k (bounded k .bound)) (w .threads) (w .objects) (low k) (bounded k .clocks)
 

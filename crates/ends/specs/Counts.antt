@@ -58,9 +58,11 @@ unfolding opsOf
 left-few table n w t =
     omega (arith, length-drop (threadIn w t .position) (opsOf table (t .0)), length-take (getD (table .counts) (t .0) 0) (drop (32 * t .0) (table .ops)), n .most (t .0))
 
+-- a bound on a bound
 rises : (x y z : ℕ) → x ≤ y → y ≤ z → x ≤ z
 rises x y z p q = omega (arith, p, q)
 
+-- a bound below an end
 below : (x y z : ℕ) → x ≤ y → y < z → x < z
 below x y z p q = omega (arith, p, q)
 
@@ -77,9 +79,11 @@ module _ (N : Entry → ℕ) (slow : Slow N) where
   abbrev pub Few : ℕ → World → Type 0
   Few b w = All (λ k e. N e ≤ b) (newEntry noObject) (w .objects)
 
+  -- a larger bound
   few-more : (b c : ℕ) (w : World) → b ≤ c → Few b w → Few c w
   few-more b c w l h k = omega (arith, l, h k)
 
+  -- every count is 1 at most at the start
   start-few : (table : Table) → Few 1 (start table)
   unfolding start
   start-few table = all-map (λ e. N e ≤ 1) (newEntry noObject) newEntry (slow .made noObject) (slow .made) (table .objects)
@@ -93,6 +97,7 @@ module _ (N : Entry → ℕ) (slow : Slow N) where
     abbrev Mid : ThreadId → ℕ → World → Type 0
     Mid t m v = (m ≤ 32) × Few (b + 32 - m) v
 
+    -- through operations that need no announcement
     passes : (t : ThreadId) → Passes t AnyOp Below (Mid t) (Few (b + 32))
     passes t =
         record {
@@ -114,13 +119,16 @@ module _ (N : Entry → ℕ) (slow : Slow N) where
     unfolding operate
     effected t op = slow .effects b (op .call) t (op .object) (recorded t op w) _ (slow .records b (actionOf (op .call)) (accessed t op w) (entryIn w (op .object)) (few (op .object .0)))
 
+    -- the objects after it
     after : (t : ThreadId) (op : Op) → Few (suc b) (inEffect t op w)
     after t op = all-set (λ k e. N e ≤ suc b) (newEntry noObject) (w .objects) (op .object .0) _ (few-more b (suc b) w (omega arith) few) (effected t op)
 
+    -- a wait that is queued changes its mutex only
     waited : (t : ThreadId) (m : ObjectId) (v : World) → Few (b + 32) v → Few (b + 32) (waiting t m v)
     unfolding wait
     waited t m v h = all-set (λ k x. N x ≤ b + 32) (newEntry noObject) (v .objects) (m .0) _ h (slow .frees (b + 32) (entryIn v m) (mutex.releaseLock t m (entryIn v m .mutex) (v .threads) .state) (h (m .0)))
 
+    -- a turn
     begins : (t : ThreadId) → Begins table w t AnyOp Below (Mid t) (Few (b + 32))
     begins t =
         record {
@@ -132,6 +140,7 @@ module _ (N : Entry → ℕ) (slow : Slow N) where
           retakes = λ m o e. few-more _ _ w (omega arith) few;
         }
 
+    -- an answer to a question
     answers : (t : ThreadId) → Answers table w t AnyOp (Few (b + 32))
     unfolding spurious
     answers t =
@@ -143,9 +152,11 @@ module _ (N : Entry → ℕ) (slow : Slow N) where
               (slow .spurs _ (entryIn w (op .object)) _ (few-more b (b + 32) w (omega arith) few (op .object .0)));
         }
 
+    -- a decision takes it 32 further at most
     decide-few : (d : ℕ) (v : World) → step table w d ≡ outcome.wants v → Few (b + 32) v
     decide-few = wanted-passes table n w g AnyOp (any-left table w) tt Below Mid (Few (b + 32)) (few-more _ _ w (omega arith) few) (λ t l. begins t) (λ t r. answers t)
 
+    -- and it is below its type's end before each effect
     each-below : (d : ℕ) → Each Below table w d
     each-below = decide-each table n w g AnyOp (any-left table w) tt Below Mid (Few (b + 32)) (few-more _ _ w (omega arith) few) (λ t l. begins t) (λ t r. answers t)
 
@@ -157,6 +168,7 @@ module _ (N : Entry → ℕ) (slow : Slow N) where
       (λ u v d x g l i s. few-more _ _ x (omega arith) (decide-few table (h .0) (1 + 32 * u) (omega (arith, l)) v g i d x s)) (h .1) (start-few table) list w e in
       few-more _ _ w (omega (arith, r .1 .2)) (r .1 .1)
 
+  -- before each effect of a further decision
   pub run-below : (bs list : List ℕ) (table : Table) (w : World) → readTable bs ≡ accepted table → Reached table list w → (d : ℕ) → Each Below table w d
   run-below bs list table w a e d =
       each-below table (read-within bs table a .0) 18625 (omega arith) w (reached-good bs list table w a e) (run-few bs list table w a e) d
@@ -170,10 +182,12 @@ abbrev pub readers : Entry → ℕ
 readers e = e .cell .«is_reading»
 
 module _ (b : ℕ) (a : ThreadId) (o : ObjectId) (e : Entry) (ts : List Thread) where
+  -- a look at an Arc leaves its count
   arc-looked : (n : ℕ) → arcCount e ≤ b → arc.inspected a n (e .arc) ts .state .«ref_cnt» ≤ suc b
   unfolding arc.inspected
   arc-looked n h = by-test (λ (r : ArcCounted). r .state .«ref_cnt» ≤ suc b) (eqb (e .arc .«ref_cnt») 0) (λ z. omega (arith, h)) (λ z. omega (arith, h))
 
+  -- an effect raises an Arc's count by one at most
   arc-effects : (c : Call) → arcCount e ≤ b → arcCount (effect c a o e ts .entry) ≤ suc b
   unfolding effect mutexEffect rwlockEffect condvarEffect notifyEffect channelEffect arcEffect cellEffect arc.refInc arc.refDec arc.dropped arc.getMut arc.strongCount
   arc-effects (Mutex mutex-call.AcquireLock) h = omega (arith, h)
@@ -201,10 +215,12 @@ module _ (b : ℕ) (a : ThreadId) (o : ObjectId) (e : Entry) (ts : List Thread) 
   arc-effects (Cell cell-call.StartWrite) h = omega (arith, h)
   arc-effects (Cell cell-call.EndWrite) h = omega (arith, h)
 
+  -- an access that fails leaves the readers
   cell-touched : (x : Ending) (next : CellState) (was t : Thread) → readers e ≤ b → next .«is_reading» ≤ suc b → cell.accessed x (e .cell) next was t .state .«is_reading» ≤ suc b
   unfolding cell.accessed
   cell-touched x next was t h l = by-test (λ (r : CellAccessed). r .state .«is_reading» ≤ suc b) (cell.isFine x) (λ z. l) (λ z. omega (arith, h))
 
+  -- an effect raises a cell's readers by one at most
   cell-effects : (c : Call) → readers e ≤ b → readers (effect c a o e ts .entry) ≤ suc b
   unfolding effect mutexEffect rwlockEffect condvarEffect notifyEffect channelEffect arcEffect cellEffect cell.startRead cell.endRead cell.startWrite cell.endWrite
   cell-effects (Mutex mutex-call.AcquireLock) h = omega (arith, h)
@@ -243,6 +259,7 @@ any-same kind.Arc x e = (refl, refl)
 any-same kind.Cell x e = (refl, refl)
 any-same kind.Nothing x e = (refl, refl)
 
+-- by the action that is recorded
 access-same : (a : Action) (x : Access) (e : Entry) → (arcCount (setLastAccess a x e) ≡ arcCount e) × (readers (setLastAccess a x e) ≡ readers e)
 access-same (action.Arc arc-action.RefInc) x e = (refl, refl)
 access-same (action.Arc arc-action.RefDec) x e = (refl, refl)
@@ -251,6 +268,7 @@ access-same (action.Channel a) x e = (refl, refl)
 access-same (action.RwLock a) x e = any-same (e .kind) x e
 access-same action.Opaque x e = any-same (e .kind) x e
 
+-- an Arc's count rises slowly
 arc-slow : Slow arcCount
 unfolding newEntry
 arc-slow =
@@ -262,6 +280,7 @@ arc-slow =
       spurs = λ b e s h. h;
     }
 
+-- a cell's readers do
 cell-slow : Slow readers
 unfolding newEntry
 cell-slow =
@@ -277,6 +296,7 @@ cell-slow =
 pub arc-few : (bs list : List ℕ) (table : Table) (w : World) → readTable bs ≡ accepted table → Reached table list w → (o : ObjectId) → entryIn w o .arc .«ref_cnt» ≤ 18625
 arc-few bs list table w a e o = run-few arcCount arc-slow bs list table w a e (o .0)
 
+-- the same before each effect
 pub arc-below : (bs list : List ℕ) (table : Table) (w : World) → readTable bs ≡ accepted table → Reached table list w
     → (d : ℕ) → Each (λ t c e ts. e .arc .«ref_cnt» < 65535) table w d
 arc-below bs list table w a e d = run-below arcCount arc-slow bs list table w a e d
@@ -285,6 +305,7 @@ arc-below bs list table w a e d = run-below arcCount arc-slow bs list table w a 
 pub readers-few : (bs list : List ℕ) (table : Table) (w : World) → readTable bs ≡ accepted table → Reached table list w → (o : ObjectId) → entryIn w o .cell .«is_reading» ≤ 18625
 readers-few bs list table w a e o = run-few readers cell-slow bs list table w a e (o .0)
 
+-- the same before each effect
 pub readers-below : (bs list : List ℕ) (table : Table) (w : World) → readTable bs ≡ accepted table → Reached table list w
     → (d : ℕ) → Each (λ t c e ts. e .cell .«is_reading» < 65535) table w d
 readers-below bs list table w a e d = run-below readers cell-slow bs list table w a e d

@@ -71,25 +71,31 @@ waiting t m w = settled w m (wait t m (entryIn w m) (w .threads))
 abbrev pub version : ThreadId → Op → World → Clock
 version t op w = dependence t (actionOf (op .call)) (entryIn w (op .object)) (threadIn w t)
 
+-- the access that it records
 abbrev pub accessed : ThreadId → Op → World → Access
 accessed t op w = record { «path_id» = risen 65535 (w .turn); version = version t op w }
 
+-- its object then
 abbrev pub recorded : ThreadId → Op → World → Entry
 recorded t op w = setLastAccess (actionOf (op .call)) (accessed t op w) (entryIn w (op .object))
 
+-- the threads then
 abbrev pub dependent : ThreadId → Op → World → List Thread
 dependent t op w = putThread (w .threads) t (withPhase (withDependence (threadIn w t) (version t op w)) Nothing)
 
 -- What holds before each effect of a decision: `Q` of the thread, the operation, its object and the threads. A step that fails ends the run: what
 -- is said of the effects after it is said of the world that it would leave.
 module _ (Q : ThreadId → Call → Entry → List Thread → Type 0) where
+  -- the operations that need no announcement
   abbrev pub OnGo : ThreadId → List Op → World → Type 0
   OnGo t [] w = Unit {0}
   OnGo t (op ∷ ops) w = isFree (op .call) ≡ true → Q t (op .call) (entryIn w (op .object)) (w .threads) × OnGo t ops (onward t op w)
 
+  -- an announced operation, and those after it
   abbrev pub OnOperation : ThreadId → Op → List Op → World → Type 0
   OnOperation t op ops w = Q t (op .call) (recorded t op w) (dependent t op w) × OnGo t ops (further t (inEffect t op w))
 
+  -- a turn, by the thread's phase
   abbrev pub OnTurn : Phase → ThreadId → List Op → World → Type 0
   OnTurn Nothing t ops w = OnGo t ops (withTurn w (risen 65535 (w .turn)))
   OnTurn (Announced p) t ops w = OnOperation t (getD ops 0 noOp) (drop 1 ops) w
@@ -102,6 +108,7 @@ module _ (Q : ThreadId → Call → Entry → List Thread → Type 0) where
       let t : ThreadId = record { 0 = d } in isRunnable (threadIn w t .state) ≡ true → OnTurn (threadIn w t .phase) t (opsLeft table w t) w
   OnAsked (asked.Thread t) table w d = Unit {0}
 
+  -- the decision d
   abbrev pub Each : Table → World → ℕ → Type 0
   Each table w d = OnAsked (w .asked) table w d
 
@@ -110,13 +117,16 @@ abbrev pub Ops : (Op → Type 0) → List Op → Type 0
 Ops F [] = Unit {0}
 Ops F (op ∷ ops) = F op × Ops F ops
 
+-- any operation
 abbrev pub AnyOp : Op → Type 0
 AnyOp op = Unit {0}
 
+-- every list has that
 any-ops : (ops : List Op) → Ops AnyOp ops
 any-ops [] = tt
 any-ops (op ∷ ops) = (tt, any-ops ops)
 
+-- so has what is left of a thread's operations
 pub any-left : (table : Table) (w : World) (t : ThreadId) → Ops AnyOp (opsLeft table w t)
 any-left table w t = any-ops (opsLeft table w t)
 
@@ -156,6 +166,7 @@ module _ (t : ThreadId) (F : Op → Type 0) (Q : ThreadId → Call → Entry →
       (λ f. ending-passes J _ _ w _ (h .shows _ w i) (go-passes ops (o .1) (onward t op w) (h .goes _ w op f i)))
       (λ f. by-test (λ (r : Decided). J (r .world)) (asks (op .call) (entryIn w (op .object))) (λ a. h .asks _ w i) (λ a. h .announces _ w op _ (o .0) i))
 
+  -- what holds before each of their effects
   go-each : (ops : List Op) (w : World) → I (length ops) w → OnGo Q t ops w
   go-each [] w i = tt
   go-each (op ∷ ops) w i = λ f. (h .sees _ w op f i, go-each ops (onward t op w) (h .goes _ w op f i))
@@ -163,6 +174,7 @@ module _ (t : ThreadId) (F : Op → Type 0) (Q : ThreadId → Call → Entry →
   -- an announced operation
   module _ (op : Op) (ops : List Op) (o : Ops F ops) (w : World) (before : J w) (done : I (length ops) (further t (inEffect t op w)))
       (waits : (m : ObjectId) → op .call ≡ Condvar (condvar-call.Wait m) → J (waiting t m (inEffect t op w))) where
+    -- what follows its effect
     then-passes : (c : Call) → op .call ≡ c → J (thereafter c t ops (inEffect t op w) .world)
     unfolding thereafter
     then-passes (Mutex c) e = go-passes ops o _ done
@@ -175,6 +187,7 @@ module _ (t : ThreadId) (F : Op → Type 0) (Q : ThreadId → Call → Entry →
     then-passes (Arc c) e = go-passes ops o _ done
     then-passes (Cell c) e = go-passes ops o _ done
 
+    -- the whole of it
     operation-passes : J (operation t op ops w .world)
     unfolding operation
     operation-passes = ending-passes J _ _ w _ before (then-passes (op .call) refl)
@@ -184,11 +197,13 @@ tail-length : (ops : List Op) → 0 < length ops → suc (length (drop 1 ops)) �
 tail-length [] l = absurd (omega (arith, l))
 tail-length (op ∷ ops) l = refl
 
+-- what holds of all holds of those after the first
 tail-ops : (F : Op → Type 0) (ops : List Op) → Ops F ops → Ops F (drop 1 ops)
 tail-ops F [] o = tt
 tail-ops F (op ∷ ops) o = o .1
 
 module _ (table : Table) (w : World) (t : ThreadId) (F : Op → Type 0) (Q : ThreadId → Call → Entry → List Thread → Type 0) (I : ℕ → World → Type 0) (J : World → Type 0) (b : Begins table w t F Q I J) where
+  -- what a turn leaves
   turn-passes : Ops F (opsLeft table w t) → J w → (f : Phase) → threadIn w t .phase ≡ f → SoundIn f (opsLeft table w t) → J (turnOf f t (opsLeft table w t) w .world)
   unfolding turnOf
   turn-passes o j Nothing e s = go-passes t F Q I J (b .passes) (opsLeft table w t) o _ (b .nothing e)
@@ -197,15 +212,18 @@ module _ (table : Table) (w : World) (t : ThreadId) (F : Op → Type 0) (Q : Thr
   turn-passes o j (Retaking p) e s =
       operation-passes t F Q I J (b .passes) _ (drop 1 (opsLeft table w t)) (tail-ops F (opsLeft table w t) o) w j (b .operates _ _ (tail-length (opsLeft table w t) s)) (λ m q. let z : _≡_ {A = ℕ} 0 1 = cc in absurd (omega (arith, z)))
 
+  -- what holds before the effects of an announced operation and of those after it
   operated : (op : Op) → 0 < length (opsLeft table w t) → OnOperation Q t op (drop 1 (opsLeft table w t)) w
   operated op s = (b .effects op, go-each t F Q I J (b .passes) (drop 1 (opsLeft table w t)) _ (b .operates op _ (tail-length (opsLeft table w t) s)))
 
+  -- what holds before the effects of a turn
   turn-each : (f : Phase) → threadIn w t .phase ≡ f → SoundIn f (opsLeft table w t) → OnTurn Q f t (opsLeft table w t) w
   turn-each Nothing e s = go-each t F Q I J (b .passes) (opsLeft table w t) _ (b .nothing e)
   turn-each (Announced p) e s = operated (getD (opsLeft table w t) 0 noOp) s
   turn-each Parked e s = tt
   turn-each (Retaking p) e s = operated (record { call = Mutex mutex-call.AcquireLock; object = p .obj }) s
 
+-- what holds of all holds of the first
 first-op : (F : Op → Type 0) (ops : List Op) → F noOp → Ops F ops → F (getD ops 0 noOp)
 first-op F [] n o = n
 first-op F (op ∷ ops) n o = o .0
@@ -245,6 +263,7 @@ module _ (table : Table) (n : Within table) (w : World) (g : Good table w) (F : 
           turn-each table w t F Q (I t) J (begins t l) (threadIn w t .phase) refl (sound-here table w g (step-on table n) t l)
       go (asked.Thread t) e = tt
 
+  -- what a decision leaves where another is wanted
   pub wanted-passes : (d : ℕ) (v : World) → step table w d ≡ outcome.wants v → J v
   unfolding step
   wanted-passes d v e = subst J (wanted-world (decide table w d .step) (decide table w d .world) v e) (decide-passes d)
@@ -252,19 +271,23 @@ module _ (table : Table) (n : Within table) (w : World) (g : Good table w) (F : 
 -- what follows from `Q` and `S` for the thread d holds before each effect too
 module _ (Q S R : ThreadId → Call → Entry → List Thread → Type 0) (d : ℕ)
     (on : (c : Call) (e : Entry) (ts : List Thread) → Q (record { 0 = d }) c e ts → S (record { 0 = d }) c e ts → R (record { 0 = d }) c e ts) where
+  -- the thread
   abbrev who : ThreadId
   who = record { 0 = d }
 
+  -- of operations that need no announcement
   go-both : (ops : List Op) (w : World) → OnGo Q who ops w → OnGo S who ops w → OnGo R who ops w
   go-both [] w h i = tt
   go-both (op ∷ ops) w h i = λ f. (on _ _ _ (h f .0) (i f .0), go-both ops (onward who op w) (h f .1) (i f .1))
 
+  -- of a turn
   turn-both : (f : Phase) (ops : List Op) (w : World) → OnTurn Q f who ops w → OnTurn S f who ops w → OnTurn R f who ops w
   turn-both Nothing ops w h i = go-both ops _ h i
   turn-both (Announced p) ops w h i = (on _ _ _ (h .0) (i .0), go-both (drop 1 ops) _ (h .1) (i .1))
   turn-both Parked ops w h i = tt
   turn-both (Retaking p) ops w h i = (on _ _ _ (h .0) (i .0), go-both (drop 1 ops) _ (h .1) (i .1))
 
+  -- of a decision
   pub each-both : (table : Table) (w : World) → Each Q table w d → Each S table w d → Each R table w d
   each-both table w h i = go (w .asked) h i
     where

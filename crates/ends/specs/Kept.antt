@@ -86,6 +86,7 @@ module _ (C : Clock → Type 0) where
     pub arc : C (e .arc .synchronize) × C (e .arc .«last_ref_inc» .version) × C (e .arc .«last_ref_dec» .version) × C (e .arc .«last_ref_inspect» .version)
     pub cell : C (e .cell .«read_access») × C (e .cell .«write_access»)
 
+  -- a thread
   abbrev pub One : (ℕ → ℕ → Phase → Type 0) → ℕ → Thread → Type 0
   One M k x = C (x .clock) × C (x .dependence) × M k (x .position) (x .phase)
 
@@ -107,11 +108,13 @@ object-more C D f e h =
       cell = (f _ (h .cell .0), f _ (h .cell .1));
     }
 
+-- of the threads too
 pub threads-more : (C D : Clock → Type 0) (M : ℕ → ℕ → Phase → Type 0) → ((c : Clock) → C c → D c) → (ts : List Thread) → Threads C M ts → Threads D M ts
 threads-more C D M f ts h = (h .0, λ k. (f _ (h .1 k .0), f _ (h .1 k .1), h .1 k .2))
 
 -- a join of clocks with `C` has it
 module _ (C : Clock → Type 0) (join : (c d : Clock) → C c → C d → C (joinOf c d)) (none : C zeroClock) (M : ℕ → ℕ → Phase → Type 0) where
+  -- an object as the table makes it
   pub new-object : (m : Made) → Object C (newEntry m)
   unfolding newEntry
   new-object m =
@@ -130,23 +133,29 @@ module _ (C : Clock → Type 0) (join : (c d : Clock) → C c → C d → C (joi
   pub mutex-put : (e : Entry) (s : MutexState) → Object C e → C (s .«last_access» .version) × C (s .synchronize) → Object C (putMutex e s)
   mutex-put e s h c = record { mutex = c; rwlock = h .rwlock; condvar = h .condvar; notify = h .notify; sends = h .sends; messages = h .messages; arc = h .arc; cell = h .cell }
 
+  -- an RwLock
   rwlock-put : (e : Entry) (s : RwLockState) → Object C e → C (s .«last_access» .version) × C (s .synchronize) → Object C (putRwLock e s)
   rwlock-put e s h c = record { mutex = h .mutex; rwlock = c; condvar = h .condvar; notify = h .notify; sends = h .sends; messages = h .messages; arc = h .arc; cell = h .cell }
 
+  -- a condvar
   condvar-put : (e : Entry) (s : CondvarState) → Object C e → C (s .«last_access» .version) → Object C (putCondvar e s)
   condvar-put e s h c = record { mutex = h .mutex; rwlock = h .rwlock; condvar = c; notify = h .notify; sends = h .sends; messages = h .messages; arc = h .arc; cell = h .cell }
 
+  -- a Notify
   pub notify-put : (e : Entry) (s : NotifyState) → Object C e → C (s .«last_access» .version) × C (s .synchronize) → Object C (putNotify e s)
   notify-put e s h c = record { mutex = h .mutex; rwlock = h .rwlock; condvar = h .condvar; notify = c; sends = h .sends; messages = h .messages; arc = h .arc; cell = h .cell }
 
+  -- a channel
   channel-put : (e : Entry) (s : ChannelState) → Object C e → C (s .«last_send_access» .version) × C (s .«last_recv_access» .version) × C (s .«sender_synchronize»)
       → All (λ k. C) zeroClock (s .«receiver_synchronize») → Object C (putChannel e s)
   channel-put e s h c m = record { mutex = h .mutex; rwlock = h .rwlock; condvar = h .condvar; notify = h .notify; sends = c; messages = m; arc = h .arc; cell = h .cell }
 
+  -- an Arc
   arc-put : (e : Entry) (s : ArcState) → Object C e → C (s .synchronize) × C (s .«last_ref_inc» .version) × C (s .«last_ref_dec» .version) × C (s .«last_ref_inspect» .version)
       → Object C (putArc e s)
   arc-put e s h c = record { mutex = h .mutex; rwlock = h .rwlock; condvar = h .condvar; notify = h .notify; sends = h .sends; messages = h .messages; arc = c; cell = h .cell }
 
+  -- a cell
   cell-put : (e : Entry) (s : CellState) → Object C e → C (s .«read_access») × C (s .«write_access») → Object C (putCell e s)
   cell-put e s h c = record { mutex = h .mutex; rwlock = h .rwlock; condvar = h .condvar; notify = h .notify; sends = h .sends; messages = h .messages; arc = h .arc; cell = c }
 
@@ -161,11 +170,13 @@ module _ (C : Clock → Type 0) (join : (c d : Clock) → C c → C d → C (joi
   any-version kind.Cell e h = none
   any-version kind.Nothing e h = none
 
+  -- the last modification of an Arc
   modified : (m : RefModify) (e : Entry) → Object C e → C (arc.lastModification m (e .arc) .version)
   modified modify.Nothing e h = none
   modified modify.RefInc e h = h .arc .1
   modified modify.RefDec e h = h .arc .2
 
+  -- the last access that an action depends on
   pub last-version : (a : Action) (e : Entry) → Object C e → C (lastDependentAccess a e .version)
   last-version (action.Arc arc-action.RefInc) e h = h .arc .3
   last-version (action.Arc arc-action.RefDec) e h = h .arc .2
@@ -175,6 +186,7 @@ module _ (C : Clock → Type 0) (join : (c d : Clock) → C c → C d → C (joi
   last-version (action.RwLock a) e h = any-version (e .kind) e h
   last-version action.Opaque e h = any-version (e .kind) e h
 
+  -- an access recorded at an object where any counts
   any-recorded : (k : Kind) (x : Access) (e : Entry) → C (x .version) → Object C e → Object C (setAnyAccess k x e)
   any-recorded kind.Mutex x e c h = mutex-put e _ h (c, h .mutex .1)
   any-recorded kind.RwLock x e c h = rwlock-put e _ h (c, h .rwlock .1)
@@ -185,6 +197,7 @@ module _ (C : Clock → Type 0) (join : (c d : Clock) → C c → C d → C (joi
   any-recorded kind.Cell x e c h = h
   any-recorded kind.Nothing x e c h = h
 
+  -- an access recorded by its action
   pub access-recorded : (a : Action) (x : Access) (e : Entry) → C (x .version) → Object C e → Object C (setLastAccess a x e)
   access-recorded (action.Arc arc-action.RefInc) x e c h = arc-put e _ h (h .arc .0, c, h .arc .2, h .arc .3)
   access-recorded (action.Arc arc-action.RefDec) x e c h = arc-put e _ h (h .arc .0, h .arc .1, c, h .arc .3)
@@ -198,26 +211,32 @@ module _ (C : Clock → Type 0) (join : (c d : Clock) → C c → C d → C (joi
   pub put-kept : (t : ThreadId) (ts : List Thread) (x : Thread) → Threads C M ts → One C M (t .0) x → Threads C M (putThread ts t x)
   put-kept t ts x h p = (length-set ts (t .0) x ∙ h .0, all-set (One C M) absent ts (t .0) x (h .1) p)
 
+  -- a load joins the object's clock into the thread's
   loaded-kept : (t : ThreadId) (ts : List Thread) (c : Clock) → Threads C M ts → C c → Threads C M (loaded t c ts)
   unfolding loaded
   loaded-kept t ts c h p = put-kept t ts _ h (join _ _ (h .1 (t .0) .0) p, h .1 (t .0) .1, h .1 (t .0) .2)
 
+  -- an answer touches no clock
   answered-kept : (t : ThreadId) (ts : List Thread) (n : ℕ) → Threads C M ts → Threads C M (answered t n ts)
   unfolding answered
   answered-kept t ts n h = put-kept t ts _ h (h .1 (t .0))
 
+  -- an unpark joins the active thread's clock
   unpark-kept : (k : ℕ) (by : Clock) (x : Thread) → C by → One C M k x → One C M k (unpark by x)
   unpark-kept k by x c h = (join _ _ (h .0) c, h .1, h .2)
 
+  -- one thread unparked
   unpark-thread-kept : (t u : ThreadId) (ts : List Thread) → Threads C M ts → Threads C M (unparkThread t u ts)
   unfolding unparkThread
   unpark-thread-kept t u ts h =
       by-test (Threads C M) (eqb (u .0) (t .0)) (λ e. h) (λ e. put-kept u ts _ h (unpark-kept (u .0) (threadAt ts t .clock) (threadAt ts u) (h .1 (t .0) .0) (h .1 (u .0))))
 
+  -- blocking touches no clock
   blocked-kept : (k : ℕ) (b : Bool) (x : Thread) → One C M k x → One C M k (blockedIf b x)
   blocked-kept k true x h = h
   blocked-kept k false x h = h
 
+  -- a change of a pass
   changed-kept : (k : ℕ) (c : Change) (by : Clock) (x : Thread) → C by → One C M k x → One C M k (changed c by x)
   unfolding changed
   changed-kept k Wake by x c h = h
@@ -226,16 +245,19 @@ module _ (C : Clock → Type 0) (join : (c d : Clock) → C c → C d → C (joi
   changed-kept k BlockReceivers by x c h = blocked-kept k (isRecv (actionOf (x .phase))) x h
   changed-kept k Unpark by x c h = unpark-kept k by x c h
 
+  -- where it changes a thread
   changed-at-kept : (c : Change) (t : ThreadId) (o : ObjectId) (by : Clock) → C by → (k : ℕ) (x : Thread) → One C M k x → One C M k (changedAt c t o by k x)
   unfolding changedAt
   changed-at-kept c t o by p k x h = by-test (One C M k) (eqb k (t .0)) (λ e. h) (λ e. by-test (One C M k) (isOn o (x .phase)) (λ on. changed-kept k c by x p h) (λ on. h))
 
+  -- the whole pass
   pub others-kept : (c : Change) (t : ThreadId) (o : ObjectId) (ts : List Thread) → Threads C M ts → Threads C M (others c t o ts)
   unfolding others
   others-kept c t o ts h = (pass-length _ 0 ts ∙ h .0, all-pass (One C M) absent _ ts (changed-at-kept c t o (threadAt ts t .clock) (h .1 (t .0) .0)) (h .1))
 
   -- an effect of a on an object
   module _ (a : ThreadId) (o : ObjectId) (e : Entry) (ts : List Thread) (h : Threads C M ts) (x : Object C e) where
+    -- what is left
     abbrev Fine : Effect → Type 0
     Fine r = Threads C M (r .threads) × Object C (r .entry)
 
@@ -243,12 +265,14 @@ module _ (C : Clock → Type 0) (join : (c d : Clock) → C c → C d → C (joi
     store : (c : Clock) → C c → C (stored a ts c)
     store c p = join c _ p (h .1 (a .0) .0)
 
+    -- a mutex taken, or not
     acquired : Threads C M (mutex.postAcquire a o (e .mutex) ts .threads) × Object C (putMutex e (mutex.postAcquire a o (e .mutex) ts .state))
     unfolding mutex.postAcquire mutex.taking
     acquired =
         by-test (λ (r : MutexAcquired). Threads C M (r .threads) × Object C (putMutex e (r .state))) (mutex.isLocked (e .mutex .lock)) (λ z. (h, mutex-put e _ x (x .mutex)))
         (λ z. (others-kept Block a o _ (loaded-kept a ts _ h (x .mutex .1)), mutex-put e _ x (x .mutex)))
 
+    -- effects on a mutex
     pub mutex-kept : (c : MutexCall) → Fine (mutexEffect c a o e ts)
     unfolding mutexEffect mutex.releaseLock
     mutex-kept mutex-call.AcquireLock = acquired
@@ -259,6 +283,7 @@ module _ (C : Clock → Type 0) (join : (c d : Clock) → C c → C d → C (joi
     abbrev Taken : List Thread → RwLockState → Type 0
     Taken us s = Threads C M us × Object C (putRwLock e s)
 
+    -- read, or not
     read-taken : (l : Locked) → e .rwlock .lock ≡ l
         → Taken (rwlock.postAcquireReadLock a o (e .rwlock) ts .threads) (rwlock.postAcquireReadLock a o (e .rwlock) ts .state)
     unfolding rwlock.postAcquireReadLock rwlock.reading
@@ -266,6 +291,7 @@ module _ (C : Clock → Type 0) (join : (c d : Clock) → C c → C d → C (joi
     read-taken (locked.Read mask) q = rw (rwlock.postAcquireReadLock, q) (others-kept BlockWriters a o _ (loaded-kept a ts _ h (x .rwlock .1)), rwlock-put e _ x (x .rwlock))
     read-taken (locked.Write t) q = rw (rwlock.postAcquireReadLock, q) (h, rwlock-put e _ x (x .rwlock))
 
+    -- written, or not
     write-taken : (l : Locked) → e .rwlock .lock ≡ l
         → Taken (rwlock.postAcquireWriteLock a o (e .rwlock) ts .threads) (rwlock.postAcquireWriteLock a o (e .rwlock) ts .state)
     unfolding rwlock.postAcquireWriteLock rwlock.writing
@@ -273,10 +299,12 @@ module _ (C : Clock → Type 0) (join : (c d : Clock) → C c → C d → C (joi
     write-taken (locked.Read mask) q = rw (rwlock.postAcquireWriteLock, q) (h, rwlock-put e _ x (x .rwlock))
     write-taken (locked.Write t) q = rw (rwlock.postAcquireWriteLock, q) (h, rwlock-put e _ x (x .rwlock))
 
+    -- freed
     freed-kept : Taken (rwlock.freed a o (e .rwlock) ts .threads) (rwlock.freed a o (e .rwlock) ts .state)
     unfolding rwlock.freed
     freed-kept = (others-kept Wake a o ts h, rwlock-put e _ x (x .rwlock .0, store _ (x .rwlock .1)))
 
+    -- left by a reader
     read-left : (l : Locked) → e .rwlock .lock ≡ l → Taken (rwlock.releaseReadLock a o (e .rwlock) ts .threads) (rwlock.releaseReadLock a o (e .rwlock) ts .state)
     unfolding rwlock.releaseReadLock rwlock.leaving
     read-left locked.Free q = rw (rwlock.releaseReadLock, q) (h, rwlock-put e _ x (x .rwlock))
@@ -286,6 +314,7 @@ module _ (C : Clock → Type 0) (join : (c d : Clock) → C c → C d → C (joi
         (λ z. (h, rwlock-put e _ x (x .rwlock .0, store _ (x .rwlock .1)))))
     read-left (locked.Write t) q = rw (rwlock.releaseReadLock, q) (h, rwlock-put e _ x (x .rwlock))
 
+    -- effects on an RwLock
     rwlock-kept : (c : RwLockCall) → Fine (rwlockEffect c a o e ts)
     unfolding rwlockEffect rwlock.releaseWriteLock
     rwlock-kept rwlock-call.AcquireReadLock = read-taken (e .rwlock .lock) refl
@@ -295,11 +324,13 @@ module _ (C : Clock → Type 0) (join : (c d : Clock) → C c → C d → C (joi
     rwlock-kept rwlock-call.ReleaseReadLock = read-left (e .rwlock .lock) refl
     rwlock-kept rwlock-call.ReleaseWriteLock = freed-kept
 
+    -- each waiter unparked
     each-kept : (ws : List ThreadId) (us : List Thread) → Threads C M us → Threads C M (condvar.unparkEach a ws us)
     unfolding condvar.unparkEach
     each-kept [] us k = k
     each-kept (t ∷ ws) us k = each-kept ws (unparkThread a t us) (unpark-thread-kept a t us k)
 
+    -- effects on a condvar
     condvar-kept : (c : CondvarCall) → Fine (condvarEffect c a e ts)
     unfolding condvarEffect condvar.queued condvar.notifyOne condvar.notifyAll
     condvar-kept (condvar-call.Wait m) =
@@ -309,6 +340,7 @@ module _ (C : Clock → Type 0) (join : (c d : Clock) → C c → C d → C (joi
         (λ z. (unpark-thread-kept a _ ts h, condvar-put e _ x (x .condvar)))
     condvar-kept condvar-call.NotifyAll = (each-kept (take (e .condvar .count) (e .condvar .waiters)) ts h, condvar-put e _ x (x .condvar))
 
+    -- effects on a Notify
     notify-kept : (c : NotifyCall) → Fine (notifyEffect c a o e ts)
     unfolding notifyEffect notify.notify notify.wait
     notify-kept notify-call.Notify = (others-kept Unpark a o ts h, notify-put e _ x (x .notify .0, store _ (x .notify .1)))
@@ -316,6 +348,7 @@ module _ (C : Clock → Type 0) (join : (c d : Clock) → C c → C d → C (joi
         by-test (λ (r : NotifyWaited). Threads C M (r .threads) × Object C (putNotify e (r .state))) (e .notify .notified)
         (λ z. (loaded-kept a ts _ h (x .notify .1), notify-put e _ x (x .notify))) (λ z. (h, notify-put e _ x (x .notify)))
 
+    -- effects on a channel
     channel-kept : (c : ChannelCall) → Fine (channelEffect c a o e ts)
     unfolding channelEffect mpsc.send mpsc.sent mpsc.recv mpsc.received
     channel-kept mpsc-call.Send =
@@ -333,12 +366,14 @@ module _ (C : Clock → Type 0) (join : (c d : Clock) → C c → C d → C (joi
           channel-put e _ x (x .sends) (all-last C zeroClock zeroClock none none (drop 1 (e .channel .«receiver_synchronize»)) (all-rest C zeroClock (e .channel .«receiver_synchronize») (x .messages))),
         ))
 
+    -- a look at an Arc
     arc-looked : (n : ℕ) → Threads C M (arc.inspected a n (e .arc) ts .threads) × Object C (putArc e (arc.inspected a n (e .arc) ts .state))
     unfolding arc.inspected
     arc-looked n =
         by-test (λ (r : ArcCounted). Threads C M (r .threads) × Object C (putArc e (r .state))) (eqb (e .arc .«ref_cnt») 0) (λ z. (h, arc-put e _ x (x .arc)))
         (λ z. (loaded-kept a ts _ h (x .arc .0), arc-put e _ x (x .arc)))
 
+    -- one reference less
     arc-dropped : Threads C M (arc.refDec a (e .arc) ts .threads) × Object C (putArc e (arc.refDec a (e .arc) ts .state))
     unfolding arc.refDec arc.dropped
     arc-dropped =
@@ -346,6 +381,7 @@ module _ (C : Clock → Type 0) (join : (c d : Clock) → C c → C d → C (joi
         by-test (λ (r : ArcCounted). Threads C M (r .threads) × Object C (putArc e (r .state))) (eqb (e .arc .«ref_cnt») 0) (λ z. (h, arc-put e _ x (x .arc)))
         (λ z. (by-test (Threads C M) (eqb (e .arc .«ref_cnt») 1) (λ y. loaded-kept a ts _ h c) (λ y. h), arc-put e _ x (c, x .arc .1, x .arc .2, x .arc .3)))
 
+    -- effects on an Arc
     arc-kept : (c : ArcCall) → Fine (arcEffect c a e ts)
     unfolding arcEffect arc.refInc arc.getMut arc.strongCount
     arc-kept arc-call.RefInc = (h, arc-put e _ x (x .arc))

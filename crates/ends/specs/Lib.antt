@@ -10,9 +10,9 @@ pub mod Weight
 pub mod Others
 pub mod Own
 pub mod Clocks
-pub mod Ends
 pub mod Named
 pub mod Range
 pub mod Phases
 pub mod Queues
+pub mod Ends
 pub mod Ranges

@@ -39,6 +39,7 @@ module _ (k : ℕ) where
     pub threads : Threads (At k b) M ts
     pub objects : All (λ i. Object (At k b)) (newEntry noObject) es
 
+  -- a clock within a bound is within a larger one
   more-at : (b c : ℕ) → b ≤ c → (x : Clock) → At k b x → At k c x
   more-at b c l x h = omega (arith, l, h)
 
@@ -74,6 +75,7 @@ module _ (k : ℕ) where
 
   -- an effect, where an own count that rises is at most c
   module _ (b c : ℕ) (l : b ≤ c) (t : ThreadId) (own : (x : Clock) → At k b x → At k c (incOf x t)) where
+    -- the object and the threads after it
     pub effect-at : (M : ℕ → ℕ → Phase → Type 0) (call : Call) (o : ObjectId) (e : Entry) (ts : List Thread) (es : List Entry) → Clocks b M ts es → Object (At k b) e
         → Clocks c M (effect call t o e ts .threads) (putEntry es o (effect call t o e ts .entry))
     effect-at M call o e ts es h x =

@@ -54,6 +54,7 @@ kind-there ms o k l low e =
     let none : kindNumber (getD ms (o .0) noObject .kind) ≡ 7 = ap (λ (m : Made). kindNumber (m .kind)) (List·getD-eq-default ms noObject out) in
     absurd (omega (arith, none, low, eqb-true (kindNumber (getD ms (o .0) noObject .kind)) (kindNumber k) e)))
 
+-- every call is on a kind
 kind-low : (c : Call) → kindNumber (kindOf c) < 7
 kind-low (Mutex c) = omega arith
 kind-low (RwLock c) = omega arith
@@ -63,6 +64,7 @@ kind-low (Channel c) = omega arith
 kind-low (Arc c) = omega arith
 kind-low (Cell c) = omega arith
 
+-- a wait's mutex is there
 mutex-there : (ms : List Made) (c : Call) → length ms ≡ 16 → mutexFine ms c ≡ true → MutexNamed c
 mutex-there ms (Mutex c) l e = tt
 mutex-there ms (RwLock c) l e = tt
@@ -74,10 +76,12 @@ mutex-there ms (Channel c) l e = tt
 mutex-there ms (Arc c) l e = tt
 mutex-there ms (Cell c) l e = tt
 
+-- both halves of an and
 both : (a b : Bool) → (a && b) ≡ true → (a ≡ true) × (b ≡ true)
 both true b e = (refl, e)
 both false b e = absurd (false≢true e)
 
+-- what an operation names is there
 named : (ms : List Made) (op : Op) → length ms ≡ 16 → objectsFine ms op ≡ true → Named op
 unfolding objectsFine
 named ms op l e =
@@ -88,21 +92,26 @@ named ms op l e =
 abbrev Ends : Read → Type 0
 Ends r = (table : Table) → r ≡ accepted table → Fine table
 
+-- a refused table is not accepted
 never : (a : Answer) → Ends (refused a)
 never a table e = let q : _≡_ {A = ℕ} 0 1 = cc in absurd (omega (arith, q))
 
+-- one more operation
 op-fine : (t : Table) (op : Op) → Fine t → Named op → Fine (withOp t op)
 unfolding withOp
 op-fine t op h n = (h .0, all-set (λ k. Named) noOp (t .ops) _ op (h .1) n)
 
+-- one more object
 object-fine : (t : Table) (m : Made) → Fine t → Fine (withObject t m)
 unfolding withObject
 object-fine t m h = (length-set (t .objects) _ m ∙ h .0, h .1)
 
+-- one more thread
 thread-fine : (t : Table) → Fine t → Fine (withThread t)
 unfolding withThread
 thread-fine t h = h
 
+-- one record
 one-fine : (at : ℕ) (t : Table) (r : Record) (go : Table → Read) → Fine t → ((u : Table) → Fine u → Ends (go u)) → Ends (oneRecord at t r go)
 unfolding oneRecord objectRecord threadRecord operationRecord
 one-fine at t (rec.Object m) go h next =
@@ -114,20 +123,24 @@ one-fine at t (rec.Operation op) go h next =
     by-test Ends (ltb (lastCount t) 32) (λ l. by-test Ends (objectsFine (t .objects) op) (λ f. next _ (op-fine t op h (named (t .objects) op (h .0) f))) (λ f. never _)) (λ l. never _))
 one-fine at t rec.Bad go h next = never _
 
+-- the end
 end-fine : (at : ℕ) (t : Table) → Fine t → Ends (atEnd at t)
 unfolding atEnd
 end-fine at t h = by-test Ends (eqb (t .«thread_count») 0) (λ z. never _) (λ z table e. let same : t ≡ table = cc in subst Fine same h)
 
+-- the records from a place on
 from-fine : (n at : ℕ) (bs : List ℕ) (t : Table) → Fine t → Ends (readFrom n at bs t)
 unfolding readFrom
 from-fine zero at bs t h = end-fine at t h
 from-fine (suc n) at [] t h = end-fine at t h
 from-fine (suc n) at (k ∷ bs) t h = one-fine at t (recordOf k bs) _ h (λ u v. from-fine n (at + 1 + bodyLength k) (drop (bodyLength k) bs) u v)
 
+-- no record
 empty-fine : Fine emptyTable
 unfolding emptyTable
 empty-fine = (refl, all-same Named noOp (omega arith, tt) 192)
 
+-- the whole table
 read-fine : (bs : List ℕ) (table : Table) → readTable bs ≡ accepted table → Fine table
 unfolding readTable
 read-fine bs table e = from-fine (length bs) 0 bs emptyTable empty-fine table e
@@ -143,11 +156,13 @@ named-take (suc n) [] h k = h k
 named-take (suc n) (op ∷ ops) h zero = h 0
 named-take (suc n) (op ∷ ops) h (suc k) = named-take n ops (λ j. h (suc j)) k
 
+-- after the first n
 named-drop : (n : ℕ) (ops : List Op) → All (λ k. Named) noOp ops → All (λ k. Named) noOp (drop n ops)
 named-drop zero ops h k = h k
 named-drop (suc n) [] h k = h k
 named-drop (suc n) (op ∷ ops) h k = named-drop n ops (λ j. h (suc j)) k
 
+-- of a thread, from a position on
 pub ops-named : (bs : List ℕ) (table : Table) → readTable bs ≡ accepted table → (t p k : ℕ) → Named (getD (drop p (opsOf table t)) k noOp)
 unfolding opsOf
 ops-named bs table e t p k =

@@ -28,12 +28,15 @@ use Rattle.ends.specs.Moves.{Clocks, announced-one, put, place, effect-a
 use Rattle.ends.specs.Weight.{Stay, Bounded, Spare}
 
 module _ (k : ℕ) (t : ThreadId) (within : t .0 < 6) (other : k ≢ t .0) (b : ℕ) where
+  -- place k is at most b
   abbrev Kept : List Thread → List Entry → Type 0
   Kept ts es = Clocks k b (Stay k b) ts es
 
+  -- of the thread that acts nothing is asked
   not-it : (q : ℕ) (f : Phase) → Stay k b (t .0) q f
   not-it q f e = absurd (other (sym e))
 
+  -- of the others the same
   same : (j q : ℕ) (f : Phase) → j ≢ t .0 → Stay k b j q f → Stay k b j q f
   same j q f n h = h
 
@@ -41,26 +44,31 @@ module _ (k : ℕ) (t : ThreadId) (within : t .0 < 6) (other : k ≢ t .0) (b : 
   other-put : (ts : List Thread) (es : List Entry) (x : Thread) → x .clock ≡ threadAt ts t .clock → x .dependence ≡ threadAt ts t .dependence → Kept ts es → Kept (putThread ts t x) es
   other-put ts es x p q h = put k b (Stay k b) (Stay k b) t within same ts es x h (rw p (h .threads .1 (t .0) .0), rw q (h .threads .1 (t .0) .1), not-it (x .position) (x .phase))
 
+  -- it announces
   other-announced : (ts : List Thread) (es : List Entry) (f : Phase) (d : Bool) → Kept ts es → Kept (putThread ts t (announced f d (threadAt ts t))) es
   other-announced ts es f d h =
       put k b (Stay k b) (Stay k b) t within same ts es _ h
       (announced-one (At k b) (Stay k b) (t .0) f d (threadAt ts t) (h .threads .1 (t .0) .0, h .threads .1 (t .0) .1, not-it (threadAt ts t .position) f))
 
+  -- one operation more is done
   other-advance : (ts : List Thread) (es : List Entry) → Kept ts es → Kept (advance t ts) es
   unfolding advance
   other-advance ts es h = other-put ts es _ refl refl h
 
+  -- an effect
   other-effect : (v : World) (op : Op) → Kept (v .threads) (v .objects)
       → Kept (effect (op .call) t (op .object) (entryIn v (op .object)) (v .threads) .threads) (putEntry (v .objects) (op .object) (effect (op .call) t (op .object) (entryIn v (op .object)) (v .threads) .entry))
   other-effect v op h =
       effect-at k b b (omega arith) t (λ x. inc-other k b x t other) (Stay k b) (op .call) (op .object) (entryIn v (op .object)) (v .threads) (v .objects) h (h .objects (op .object .0))
 
+  -- it parks, or retakes at once
   other-park : (m : ObjectId) (e : Entry) (ts : List Thread) (es : List Entry) → Kept ts es → Kept (park t m e ts) es
   unfolding park retake
   other-park m e ts es h =
       by-test (λ (us : List Thread). Kept us es) (hasUnpark (threadAt ts t .state)) (λ z. other-announced _ es _ _ (other-put ts es (setRunnable (threadAt ts t)) refl refl h))
       (λ z. other-put ts es _ refl refl h)
 
+  -- a wait, once it is queued
   other-wait : (m : ObjectId) (v : World) → Kept (v .threads) (v .objects) → Kept (waiting t m v .threads) (waiting t m v .objects)
   unfolding wait mutexEffect
   other-wait m v h =
@@ -68,6 +76,7 @@ module _ (k : ℕ) (t : ThreadId) (within : t .0 < 6) (other : k ≢ t .0) (b : 
       let g : Kept (mutex.releaseLock t m (entryIn v m .mutex) (v .threads) .threads) (v .objects) = record { threads = r .0; objects = h .objects } in
       place k b (Stay k b) _ (v .objects) m _ (other-park m _ _ (v .objects) g) (r .1)
 
+  -- through operations that need no announcement
   other-passes : Passes t AnyOp (Spare k) (λ n v. Kept (v .threads) (v .objects)) (Bounded k)
   unfolding ended announceOp
   other-passes =
@@ -80,6 +89,7 @@ module _ (k : ℕ) (t : ThreadId) (within : t .0 < 6) (other : k ≢ t .0) (b : 
         goes = λ n v op f h. other-advance _ _ (other-effect v op h);
       }
 
+  -- a turn
   pub other-begins : (table : Table) (w : World) → Kept (w .threads) (w .objects) → Begins table w t AnyOp (Spare k) (λ n v. Kept (v .threads) (v .objects)) (Bounded k)
   unfolding retake
   other-begins table w h =
@@ -94,6 +104,7 @@ module _ (k : ℕ) (t : ThreadId) (within : t .0 < 6) (other : k ≢ t .0) (b : 
         retakes = λ m o e. record { bound = b; clocks = other-announced (w .threads) (w .objects) _ _ h };
       }
 
+  -- an answer to a question
   pub other-answers : (table : Table) (w : World) → Kept (w .threads) (w .objects) → Answers table w t AnyOp (Bounded k)
   unfolding announceOp spurious
   other-answers table w h =

@@ -37,6 +37,7 @@ module _ (k : ℕ) (t : ThreadId) (within : t .0 < 6) (it : t .0 ≡ k) where
   said-none : (M : ℕ → ℕ → Phase → Type 0) (N : ℕ → Phase → Type 0) (j q : ℕ) (f : Phase) → j ≢ t .0 → M j q f → (j ≡ k → N q f)
   said-none M N j q f n h e = absurd (n (e ∙ sym it))
 
+  -- between two turns: what is counted is what the thread may have counted
   stays : (p : ℕ) (ts : List Thread) (es : List Entry) → p ≤ 32 → Clocks k (6 * p) (Going k p) ts es → Clocks k (6 * p) (Stay k (6 * p)) ts es
   stays p ts es l h =
       marks k (6 * p) (Going k p) (Stay k (6 * p)) ts es
@@ -50,6 +51,7 @@ module _ (k : ℕ) (t : ThreadId) (within : t .0 < 6) (it : t .0 ≡ k) where
   own-put b p ts es x c d q f h =
       put k b (Going k p) (Going k p) t within (λ j r g n i. i) ts es x h (rw c (h .threads .1 (t .0) .0), rw d (h .threads .1 (t .0) .1), λ e. (q ∙ h .threads .1 (t .0) .2 it .0, f))
 
+  -- a phase is set, and the bound is what that phase allows
   own-announced : (b c p : ℕ) (M : ℕ → ℕ → Phase → Type 0) (ts : List Thread) (es : List Entry) (f : Phase) (d : Bool) → p ≤ 32 → b ≤ c → weightOf p f ≡ c
       → threadAt ts t .position ≡ p → Clocks k b M ts es → Clocks k c (Stay k c) (putThread ts t (announced f d (threadAt ts t))) es
   own-announced b c p M ts es f d l m w q h =
@@ -67,12 +69,14 @@ module _ (k : ℕ) (t : ThreadId) (within : t .0 < 6) (it : t .0 ≡ k) where
       put k (6 * (p + 1)) (Going k p) (Going k (p + 1)) t within (said-none (Going k p) (λ q f. (q ≡ p + 1) × (f ≡ Nothing))) ts es _ g
       (g .threads .1 (t .0) .0, g .threads .1 (t .0) .1, λ e. (omega (arith, q, l), h .threads .1 (t .0) .2 it .1))
 
+  -- an effect raises the bound by one
   own-effect : (b p : ℕ) (v : World) (op : Op) → Clocks k b (Going k p) (v .threads) (v .objects)
       → Clocks k (suc b) (Going k p) (effect (op .call) t (op .object) (entryIn v (op .object)) (v .threads) .threads)
       (putEntry (v .objects) (op .object) (effect (op .call) t (op .object) (entryIn v (op .object)) (v .threads) .entry))
   own-effect b p v op h =
       effect-at k b (suc b) (omega arith) t (λ x. inc-at k b x t) (Going k p) (op .call) (op .object) (entryIn v (op .object)) (v .threads) (v .objects) h (h .objects (op .object .0))
 
+  -- through operations that need no announcement
   own-passes : Passes t AnyOp (Spare k) (Mid k) (Bounded k)
   unfolding ended announceOp
   own-passes =
@@ -115,6 +119,7 @@ module _ (k : ℕ) (t : ThreadId) (within : t .0 < 6) (it : t .0 ≡ k) where
       (λ z. own-announced b (6 * p + 3) p (Going k p) _ es (Retaking (record { obj = m; action = action.Opaque })) (mutex.isLocked (e .mutex .lock)) l r refl (ready .threads .1 (t .0) .2 it .0) ready)
       (λ z. own-announced b (6 * p + 3) p (Going k p) ts es Parked true l r refl (q .0) h)
 
+  -- a wait, once it is queued
   own-wait : (b p : ℕ) (m : ObjectId) (v : World) → p ≤ 32 → b ≤ 6 * p + 3 → Clocks k b (Going k p) (v .threads) (v .objects)
       → Clocks k (6 * p + 3) (Stay k (6 * p + 3)) (waiting t m v .threads) (waiting t m v .objects)
   unfolding wait mutexEffect
@@ -126,12 +131,15 @@ module _ (k : ℕ) (t : ThreadId) (within : t .0 < 6) (it : t .0 ≡ k) where
       own-park b p m f us (putEntry (v .objects) m f) l r g
 
   module _ (table : Table) (n : Within table) (w : World) (b : ℕ) (h : Clocks k b (Stay k b) (w .threads) (w .objects)) where
+    -- the operations done
     abbrev done : ℕ
     done = threadIn w t .position
 
+    -- at most 32
     few : done ≤ 32
     few = h .threads .1 (t .0) .2 it .0
 
+    -- what it may have counted
     weighs : weightOf done (threadIn w t .phase) ≡ b
     weighs = h .threads .1 (t .0) .2 it .1
 
@@ -147,14 +155,17 @@ module _ (k : ℕ) (t : ThreadId) (within : t .0 < 6) (it : t .0 ≡ k) where
     seen : (op : Op) → Clocks k (suc b) (Going k done) (dependent t op w) (w .objects)
     seen op = dependent-at k b (suc b) (omega arith) t (λ x. inc-at k b x t) (Stay k b) (Going k done) within (said-none (Stay k b) (λ q f. (q ≡ done) × (f ≡ Nothing))) w h (λ e. (refl, refl)) op
 
+    -- and after its effect
     after : (op : Op) → Clocks k (suc (suc b)) (Going k done) (inEffect t op w .threads) (inEffect t op w .objects)
     after op =
         in-effect-at k b (suc b) (suc (suc b)) (omega arith) (omega arith) t (λ x. inc-at k b x t) (λ x. inc-at k (suc b) x t) (Stay k b) (Going k done) within
         (said-none (Stay k b) (λ q f. (q ≡ done) × (f ≡ Nothing))) w h (λ e. (refl, refl)) op
 
+    -- the bound is at most six an operation and three
     high : b ≤ 6 * done + 3
     high = omega (arith, weighs, weight-high done (threadIn w t .phase))
 
+    -- a turn
     pub own-begins : Begins table w t AnyOp (Spare k) (Mid k) (Bounded k)
     unfolding retake
     own-begins =
@@ -176,6 +187,7 @@ module _ (k : ℕ) (t : ThreadId) (within : t .0 < 6) (it : t .0 ≡ k) where
               record { bound = 6 * done + 3; clocks = own-announced b (6 * done + 3) done (Stay k b) (w .threads) (w .objects) _ _ few (omega (arith, c)) refl refl h };
         }
 
+    -- an answer to a question
     pub own-answers : Ready table (asked.Thread t) (w .threads) → Answers table w t AnyOp (Bounded k)
     unfolding announceOp spurious
     own-answers r =

@@ -45,13 +45,15 @@ use Rattle.ends.specs.Kept.{Object, One, Threads, mutex-kept, effect-kep
 use Rattle.ends.specs.Moves.{announced-one}
 
 -- nothing is asked of clocks here
-abbrev Any : Clock → Type 0
+abbrev pub Any : Clock → Type 0
 Any c = Unit {0}
 
-any-join : (c d : Clock) → Any c → Any d → Any (joinOf c d)
+-- nor of a join
+pub any-join : (c d : Clock) → Any c → Any d → Any (joinOf c d)
 any-join c d p q = tt
 
-any-object : (e : Entry) → Object Any e
+-- nor of an object's
+pub any-object : (e : Entry) → Object Any e
 any-object e = record { mutex = (tt, tt); rwlock = (tt, tt); condvar = tt; notify = (tt, tt); sends = (tt, tt, tt); messages = λ k. tt; arc = (tt, tt, tt, tt); cell = (tt, tt) }
 
 -- what a phase names, before these operations
@@ -61,9 +63,11 @@ NamedIn (Announced p) ops = p .obj .0 < 16
 NamedIn Parked ops = mutexOf (getD ops 0 noOp .call) .0 < 16
 NamedIn (Retaking p) ops = p .obj .0 < 16
 
+-- the mutex of a wait
 mutex-named : (c : Call) (m : ObjectId) → MutexNamed c → c ≡ Condvar (condvar-call.Wait m) → m .0 < 16
 mutex-named c m h e = subst MutexNamed e h
 
+-- each operation of a list
 all-ops : (ops : List Op) → All (λ k. Named) noOp ops → Ops Named ops
 all-ops [] h = tt
 all-ops (op ∷ ops) h = (h 0, all-ops ops (λ k. h (suc k)))
@@ -73,9 +77,11 @@ module _ (table : Table) where
   abbrev pub Names : ℕ → ℕ → Phase → Type 0
   Names j q f = NamedIn f (drop q (opsOf table j))
 
+  -- a thread in a turn of t
   abbrev Standing : ThreadId → ℕ → ℕ → ℕ → Phase → Type 0
   Standing t p j q f = Names j q f × (j ≡ t .0 → (q ≡ p) × (f ≡ Nothing))
 
+  -- the threads in a turn of t
   abbrev InTurn : ThreadId → ℕ → List Thread → Type 0
   InTurn t p ts = Threads Any (Standing t p) ts
 
@@ -83,13 +89,16 @@ module _ (table : Table) where
     pub at : ℕ
     pub turn : InTurn t at (v .threads)
 
+  -- the threads of a world
   abbrev pub AllNamed : World → Type 0
   AllNamed w = Threads Any Names (w .threads)
 
+  -- who has announced nothing names nothing
   names-nothing : (j q : ℕ) (f : Phase) → f ≡ Nothing → Names j q f
   names-nothing j q f e = subst (λ (x : Phase). Names j q x) (sym e) tt
 
   module _ (t : ThreadId) (within : t .0 < 6) where
+    -- the thread that acts is put
     put : (M N : ℕ → ℕ → Phase → Type 0) → ((j q : ℕ) (f : Phase) → j ≢ t .0 → M j q f → N j q f) → (ts : List Thread) (x : Thread) → Threads Any M ts → N (t .0) (x .position) (x .phase)
         → Threads Any N (putThread ts t x)
     put M N on ts x h p = (
@@ -97,12 +106,15 @@ module _ (table : Table) where
       all-put (One Any M) (One Any N) absent ts (t .0) x (omega (arith, within, h .0)) (λ j y n i. (tt, tt, on j (y .position) (y .phase) n (i .2))) (h .1) (tt, tt, p),
     )
 
+    -- another position of the thread that acts
     off : (p r : ℕ) (j q : ℕ) (f : Phase) → j ≢ t .0 → Standing t p j q f → Standing t r j q f
     off p r j q f n h = (h .0, λ e. absurd (n e))
 
+    -- the turn ends
     done : (p : ℕ) (ts : List Thread) → InTurn t p ts → Threads Any Names ts
     done p ts h = (h .0, λ j. (tt, tt, h .1 j .2 .0))
 
+    -- the thread that acts
     here : (p : ℕ) (ts : List Thread) → InTurn t p ts → (threadAt ts t .position ≡ p) × (threadAt ts t .phase ≡ Nothing)
     here p ts h = h .1 (t .0) .2 .1 refl
 
@@ -112,24 +124,29 @@ module _ (table : Table) where
         let x = announced-one Any Names (t .0) f d (threadAt ts t) (tt, tt, subst (λ (q : ℕ). Names (t .0) q f) (sym (here p ts h .0)) n) in
         put (Standing t p) Names (λ j q g m i. i .0) ts _ h (x .2)
 
+    -- it is put with nothing announced
     same-put : (p : ℕ) (ts : List Thread) (x : Thread) → x .position ≡ threadAt ts t .position → x .phase ≡ Nothing → InTurn t p ts → InTurn t p (putThread ts t x)
     same-put p ts x q f h = put (Standing t p) (Standing t p) (λ j r g n i. i) ts x h (names-nothing (t .0) (x .position) (x .phase) f, λ e. (q ∙ here p ts h .0, f))
 
+    -- one operation more is done
     advanced : (p : ℕ) (ts : List Thread) → InTurn t p ts → InTurn t (risen 255 p) (advance t ts)
     unfolding advance
     advanced p ts h =
         let f = here p ts h in
         put (Standing t p) (Standing t (risen 255 p)) (off p (risen 255 p)) ts _ h (names-nothing (t .0) (risen 255 (threadAt ts t .position)) (threadAt ts t .phase) (f .1), λ e. (ap (risen 255) (f .0), f .1))
 
+    -- an effect
     effected : (p : ℕ) (c : Call) (o : ObjectId) (e : Entry) (ts : List Thread) → InTurn t p ts → InTurn t p (effect c t o e ts .threads)
     effected p c o e ts h = effect-kept Any any-join tt (Standing t p) t o e ts h (any-object e) tt c .0
 
+    -- it ends
     ended-named : (p : ℕ) (ts : List Thread) → InTurn t p ts → Threads Any Names (ended t ts)
     unfolding ended
     ended-named p ts h =
         let x : Thread = withPhase (withState (threadAt ts t) state.Ended) Nothing in
         done p (putThread ts t x) (same-put p ts x refl refl h)
 
+    -- through operations that need no announcement
     passes : Passes t Named (λ u c e ts. Unit {0}) (Mid t) AllNamed
     unfolding announceOp
     passes =
@@ -144,6 +161,7 @@ module _ (table : Table) where
 
     -- a wait of the operation op, once it is queued
     module _ (named : (j p k : ℕ) → Named (getD (drop p (opsOf table j)) k noOp)) (w : World) (h : AllNamed w) where
+      -- it parks, or retakes at once
       parked : (p : ℕ) (m : ObjectId) (e : Entry) (ts : List Thread) → InTurn t p ts → m .0 < 16 → mutexOf (getD (drop p (opsOf table (t .0))) 0 noOp .call) ≡ m → Threads Any Names (park t m e ts)
       unfolding park retake announced
       parked p m e ts i l q =
@@ -151,21 +169,25 @@ module _ (table : Table) where
           (λ z. phased p (putThread ts t (setRunnable (threadAt ts t))) (Retaking (record { obj = m; action = action.Opaque })) (mutex.isLocked (e .mutex .lock)) (same-put p ts (setRunnable (threadAt ts t)) refl (here p ts i .1) i) l)
           (λ z. phased p ts Parked true i (subst (λ (x : ObjectId). x .0 < 16) (sym q) l))
 
+      -- the wait
       waited : (p : ℕ) (m : ObjectId) (v : World) → InTurn t p (v .threads) → m .0 < 16 → mutexOf (getD (drop p (opsOf table (t .0))) 0 noOp .call) ≡ m → AllNamed (waiting t m v)
       unfolding wait mutexEffect
       waited p m v i l q =
           parked p m (putMutex (entryIn v m) (mutex.releaseLock t m (entryIn v m .mutex) (v .threads) .state)) (mutex.releaseLock t m (entryIn v m .mutex) (v .threads) .threads)
           (mutex-kept Any any-join tt (Standing t p) t m (entryIn v m) (v .threads) i (any-object (entryIn v m)) mutex-call.ReleaseLock .0) l q
 
+      -- a turn with nothing announced
       begun : threadIn w t .phase ≡ Nothing → InTurn t (threadIn w t .position) (w .threads)
       begun f = (h .0, λ j. (tt, tt, (h .1 j .2, λ e. (ap (λ (x : ℕ). getD (w .threads) x absent .position) e, ap (λ (x : ℕ). getD (w .threads) x absent .phase) e ∙ f))))
 
+      -- an announced operation in effect
       in-effect : (op : Op) → InTurn t (threadIn w t .position) (inEffect t op w .threads)
       unfolding operate
       in-effect op =
           effected (threadIn w t .position) (op .call) (op .object) (recorded t op w) (dependent t op w)
           (put Names (Standing t (threadIn w t .position)) (λ j q f n i. (i, λ e. absurd (n e))) (w .threads) _ h (tt, λ e. (refl, refl)))
 
+      -- a turn
       begins : Begins table w t Named (λ u c e ts. Unit {0}) (Mid t) AllNamed
       unfolding retake
       begins =
@@ -187,6 +209,7 @@ module _ (table : Table) where
                 put Names Names (λ j q f n i. i) (w .threads) _ h (x .2);
           }
 
+      -- an answer to a question
       answers : Ready table (asked.Thread t) (w .threads) → Answers table w t Named AllNamed
       unfolding announceOp spurious
       answers r =
@@ -200,10 +223,12 @@ module _ (table : Table) where
                 done (risen 255 p) (advance t us) (advanced p us (same-put p (w .threads) (setRunnable (threadIn w t)) refl f (begun f)));
           }
 
+-- nobody has announced anything
 start-named : (table : Table) (n j : ℕ) (x : Thread) → One Any (Names table) j x → One Any (Names table) j (startThread n j x)
 unfolding startThread
 start-named table n j x h = by-test (One Any (Names table) j) (ltb j n) (λ e. h) (λ e. h)
 
+-- the start
 start-all : (table : Table) → AllNamed table (start table)
 unfolding start
 start-all table = (
@@ -214,14 +239,17 @@ start-all table = (
 
 -- in every world that a run of an accepted table reaches
 module _ (bs list : List ℕ) (table : Table) (w : World) (a : readTable bs ≡ accepted table) (e : Reached table list w) where
+  -- every operation's objects have places
   named : (j p k : ℕ) → Named (getD (drop p (opsOf table j)) k noOp)
   named j p k = ops-named bs table a j p k
 
+  -- each decision keeps it
   decided : (v : World) (d : ℕ) (x : World) → Good table v → AllNamed table v → step table v d ≡ outcome.wants x → AllNamed table x
   decided v d x g h s =
       wanted-passes table (read-within bs table a .0) v g Named (λ t. all-ops (opsLeft table v t) (named (t .0) (threadIn v t .position))) (omega arith, tt) (λ u c y ts. Unit {0})
       (λ t. Mid table t) (AllNamed table) h (λ t l. begins table t l named v h) (λ t r. answers table t (r .0) named v h r) d x s
 
+  -- what a thread has announced, retakes, or waits for when parked
   pub phase-named : (t : ThreadId) → NamedIn (threadIn w t .phase) (opsLeft table w t)
   phase-named t =
       let h = read-within bs table a in

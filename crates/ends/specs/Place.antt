@@ -19,9 +19,11 @@ abbrev pub At : ℕ → ℕ → Clock → Type 0
 At k b c = getD (c .counts) k 0 ≤ b
 
 module _ (k b : ℕ) where
+  -- no count
   pub zero-at : At k b zeroClock
   zero-at = all-same (λ n. n ≤ b) 0 (omega arith) 6 k
 
+  -- the larger of two counts
   joined-at : (xs ys : List ℕ) → getD xs k 0 ≤ b → getD ys k 0 ≤ b → getD (joined xs ys) k 0 ≤ b
   joined-at xs ys p q =
       split (ltb k (length xs)) (λ l. omega (arith, join-at xs ys k (ltb-true k (length xs) l), p, q))
@@ -29,10 +31,12 @@ module _ (k b : ℕ) where
       let out : length (joined xs ys) ≤ k = omega (arith, ltb-false k (length xs) l, join-length xs ys) in
       omega (arith, List·getD-eq-default (joined xs ys) 0 {n = k} out))
 
+  -- of clocks
   pub join-at-most : (c d : Clock) → At k b c → At k b d → At k b (joinOf c d)
   unfolding joinOf
   join-at-most c d p q = joined-at (c .counts) (d .counts) p q
 
+  -- a count one higher
   pub inc-at : (c : Clock) (t : ThreadId) → At k b c → At k (suc b) (incOf c t)
   unfolding incOf
   inc-at c t p =
@@ -42,6 +46,7 @@ module _ (k b : ℕ) where
       all-set (λ j n. j ≡ k → n ≤ suc b) 0 (c .counts) (t .0) (min (getD (c .counts) (t .0) 0 + 1) 255) (λ j f. rw f (omega (arith, p))) (λ f. rw f (omega (arith, p))) k refl)
       (λ e. omega (arith, p, raised-other (c .counts) (t .0) k (eqb-false k (t .0) e)))
 
+  -- another thread's count
   pub inc-other : (c : Clock) (t : ThreadId) → k ≢ t .0 → At k b c → At k b (incOf c t)
   unfolding incOf
   inc-other c t n p = omega (arith, p, raised-other (c .counts) (t .0) k n)

@@ -60,9 +60,11 @@ pub record Passing (s : ChannelState) : Type 0 where
   pub long : length (s .«receiver_synchronize») ≡ 16
   pub most : s .«msg_cnt» ≤ 16
 
+-- those of an object
 abbrev pub Queues : Entry → Type 0
 Queues e = Waiting (e .condvar) × Passing (e .channel)
 
+-- an object as the table makes it
 new-queues : (m : Made) → Queues (newEntry m)
 unfolding newEntry
 new-queues m = (record { long = refl; most = omega arith; who = λ k l. absurd (omega (arith, l)) }, record { long = refl; most = omega arith })
@@ -78,6 +80,7 @@ any-queues kind.Arc x e h = h
 any-queues kind.Cell x e h = h
 any-queues kind.Nothing x e h = h
 
+-- by its action
 access-queues : (a : Action) (x : Access) (e : Entry) → Queues e → Queues (setLastAccess a x e)
 access-queues (action.Arc a) x e h = h
 access-queues (action.Channel mpsc-action.MsgSend) x e h = (h .0, record { long = h .1 .long; most = h .1 .most })
@@ -87,6 +90,7 @@ access-queues action.Opaque x e h = any-queues (e .kind) x e h
 
 -- a waiter more, one less, none
 module _ (s : CondvarState) (h : Waiting s) where
+  -- a waiter more
   queued : (a : ThreadId) → a .0 < 6 → Waiting (condvar.queued a s .state)
   unfolding condvar.queued
   queued a l =
@@ -103,6 +107,7 @@ module _ (s : CondvarState) (h : Waiting s) where
       })
       (λ e. h)
 
+  -- the oldest one less
   notified : (a : ThreadId) (ts : List Thread) → Waiting (condvar.notifyOne a s ts .state)
   unfolding condvar.notifyOne
   notified a ts =
@@ -116,18 +121,21 @@ module _ (s : CondvarState) (h : Waiting s) where
             subst (λ (x : ThreadId). x .0 < 6) (sym (get-last condvar.nobody (drop 1 (s .waiters)) k ∙ get-rest condvar.nobody (s .waiters) k)) (h .who (suc k) (omega (arith, l)));
       })
 
+  -- none
   all-notified : (a : ThreadId) (ts : List Thread) → Waiting (condvar.notifyAll a s ts .state)
   unfolding condvar.notifyAll
   all-notified a ts = record { long = refl; most = omega arith; who = λ k l. absurd (omega (arith, l)) }
 
 -- a message more, one less
 module _ (a : ThreadId) (o : ObjectId) (s : ChannelState) (ts : List Thread) (h : Passing s) where
+  -- a message more
   sent : Passing (mpsc.send a o s ts .state)
   unfolding mpsc.send mpsc.sent
   sent =
       by-test (λ (r : ChannelPassed). Passing (r .state)) (ltb (s .«msg_cnt») 16)
       (λ e. record { long = length-set (s .«receiver_synchronize») _ _ ∙ h .long; most = omega (arith, ltb-true (s .«msg_cnt») 16 e) }) (λ e. h)
 
+  -- the oldest one less
   received : Passing (mpsc.recv a o s ts .state)
   unfolding mpsc.recv mpsc.received
   received =
@@ -136,6 +144,7 @@ module _ (a : ThreadId) (o : ObjectId) (s : ChannelState) (ts : List Thread) (h 
 
 -- an effect
 module _ (a : ThreadId) (within : a .0 < 6) (o : ObjectId) (e : Entry) (ts : List Thread) (h : Queues e) where
+  -- only those on a condvar or a channel change a queue
   effect-queues : (c : Call) → Queues (effect c a o e ts .entry)
   unfolding effect mutexEffect rwlockEffect condvarEffect notifyEffect channelEffect arcEffect cellEffect
   effect-queues (Mutex mutex-call.AcquireLock) = h
@@ -167,26 +176,32 @@ module _ (a : ThreadId) (within : a .0 < 6) (o : ObjectId) (e : Entry) (ts : Lis
 abbrev pub AllQueues : World → Type 0
 AllQueues w = All (λ k. Queues) (newEntry noObject) (w .objects)
 
+-- before an effect
 abbrev pub Before : ThreadId → Call → Entry → List Thread → Type 0
 Before t c e ts = Queues e
 
+-- the start
 start-queues : (table : Table) → AllQueues (start table)
 unfolding start
 start-queues table = all-map Queues (newEntry noObject) newEntry (new-queues noObject) new-queues (table .objects)
 
+-- an object is put
 put : (w : World) (o : ObjectId) (e : Entry) → AllQueues w → Queues e → All (λ k. Queues) (newEntry noObject) (set (w .objects) (o .0) e)
 put w o e h q = all-set (λ k. Queues) (newEntry noObject) (w .objects) (o .0) e h q
 
 module _ (table : Table) (n : Within table) (w : World) (g : Good table w) (h : AllQueues w) where
+  -- an announced operation in effect
   in-effect : (t : ThreadId) → t .0 < 6 → (op : Op) → AllQueues (inEffect t op w)
   unfolding operate
   in-effect t l op =
       put w (op .object) _ h (effect-queues t l (op .object) (recorded t op w) (dependent t op w) (access-queues (actionOf (op .call)) (accessed t op w) (entryIn w (op .object)) (h (op .object .0))) (op .call))
 
+  -- a wait, once it is queued
   waited : (t : ThreadId) (m : ObjectId) (v : World) → AllQueues v → AllQueues (waiting t m v)
   unfolding wait
   waited t m v i = put v m _ i (i (m .0))
 
+  -- a turn
   begins : (t : ThreadId) → t .0 < 6 → Begins table w t AnyOp Before (λ k v. AllQueues v) AllQueues
   begins t l =
       record {
@@ -205,21 +220,26 @@ module _ (table : Table) (n : Within table) (w : World) (g : Good table w) (h : 
         retakes = λ m o e. h;
       }
 
+  -- an answer to a question
   answers : (t : ThreadId) → Answers table w t AnyOp AllQueues
   unfolding spurious
   answers t = record { goes = λ op f. h; wakes = λ op. put w (op .object) _ h (h (op .object .0)) }
 
+  -- each decision keeps it
   decided : (d : ℕ) (v : World) → step table w d ≡ outcome.wants v → AllQueues v
   decided = wanted-passes table n w g AnyOp (any-left table w) tt Before (λ t k v. AllQueues v) AllQueues h begins (λ t r. answers t)
 
+  -- and it holds before each of its effects
   each-before : (d : ℕ) → Each Before table w d
   each-before = decide-each table n w g AnyOp (any-left table w) tt Before (λ t k v. AllQueues v) AllQueues h begins (λ t r. answers t)
 
 -- in every world that a run of an accepted table reaches, and before each effect of a further decision
 module _ (bs list : List ℕ) (table : Table) (w : World) (a : readTable bs ≡ accepted table) (e : Reached table list w) where
+  -- in the world
   pub queues : AllQueues w
   queues =
       let h = read-within bs table a in run-by table (h .0) (λ u v. AllQueues v) (λ u v d x g l i s. decided table (h .0) v g i d x s) (h .1) (start-queues table) list w e .1 .1
 
+  -- before each effect
   pub queues-before : (d : ℕ) → Each Before table w d
   queues-before d = each-before table (read-within bs table a .0) w (reached-good bs list table w a e) queues d

@@ -42,14 +42,17 @@ use Rattle.ends.specs.Moves.{announced-one}
 abbrev pub Six : Clock → Type 0
 Six c = length (c .counts) ≡ 6
 
+-- a join has as many
 six-join : (c d : Clock) → Six c → Six d → Six (joinOf c d)
 unfolding joinOf
 six-join c d p q = join-length (c .counts) (d .counts) ∙ p
 
+-- and a clock whose count rises
 six-inc : (c : Clock) (t : ThreadId) → Six c → Six (incOf c t)
 unfolding incOf
 six-inc c t p = raised-length (c .counts) (t .0) ∙ p
 
+-- nothing is asked of positions and phases here
 abbrev any : ℕ → ℕ → Phase → Type 0
 any j q f = Unit {0}
 
@@ -59,6 +62,7 @@ pub record Whole (ts : List Thread) (es : List Entry) : Type 0 where
   pub objects : All (λ i. Object Six) (newEntry noObject) es
   pub store : length es ≡ 16
 
+-- of a world
 abbrev pub Lengths : World → Type 0
 Lengths w = Whole (w .threads) (w .objects)
 
@@ -66,36 +70,44 @@ Lengths w = Whole (w .threads) (w .objects)
 abbrev pub There : ThreadId → Call → Entry → List Thread → Type 0
 There t c e ts = (t .0 < 6) × (length ts ≡ 6) × Six (threadAt ts t .clock) × Six (threadAt ts t .dependence) × Object Six e
 
+-- a thread is put
 put-whole : (t : ThreadId) (ts : List Thread) (es : List Entry) (x : Thread) → Whole ts es → Six (x .clock) → Six (x .dependence) → Whole (putThread ts t x) es
 put-whole t ts es x h p q = record { threads = put-kept Six six-join refl any t ts x (h .threads) (p, q, tt); objects = h .objects; store = h .store }
 
+-- an object is put
 place-whole : (ts : List Thread) (es : List Entry) (o : ObjectId) (e : Entry) → Whole ts es → Object Six e → Whole ts (putEntry es o e)
 place-whole ts es o e h x =
     record { threads = h .threads; objects = all-set (λ i. Object Six) (newEntry noObject) es (o .0) e (h .objects) x; store = length-set es (o .0) e ∙ h .store }
 
 module _ (t : ThreadId) where
+  -- the thread that acts, its clocks as they are
   same-put : (ts : List Thread) (es : List Entry) (x : Thread) → x .clock ≡ threadAt ts t .clock → x .dependence ≡ threadAt ts t .dependence → Whole ts es → Whole (putThread ts t x) es
   same-put ts es x p q h = put-whole t ts es x h (rw p (h .threads .1 (t .0) .0)) (rw q (h .threads .1 (t .0) .1))
 
+  -- it announces
   announced-whole : (ts : List Thread) (es : List Entry) (f : Phase) (d : Bool) → Whole ts es → Whole (putThread ts t (announced f d (threadAt ts t))) es
   announced-whole ts es f d h =
       let x = announced-one Six any (t .0) f d (threadAt ts t) (h .threads .1 (t .0) .0, h .threads .1 (t .0) .1, tt) in put-whole t ts es _ h (x .0) (x .1)
 
+  -- one operation more is done
   advance-whole : (ts : List Thread) (es : List Entry) → Whole ts es → Whole (advance t ts) es
   unfolding advance
   advance-whole ts es h = same-put ts es _ refl refl h
 
+  -- an effect
   effect-whole : (c : Call) (o : ObjectId) (e : Entry) (ts : List Thread) (es : List Entry) → Whole ts es → Object Six e → Whole (effect c t o e ts .threads) (putEntry es o (effect c t o e ts .entry))
   effect-whole c o e ts es h x =
       let r = effect-kept Six six-join refl any t o e ts (h .threads) x (six-inc (threadAt ts t .clock) t (h .threads .1 (t .0) .0)) c in
       place-whole _ es o _ (record { threads = r .0; objects = h .objects; store = h .store }) (r .1)
 
+  -- it parks, or retakes at once
   park-whole : (m : ObjectId) (e : Entry) (ts : List Thread) (es : List Entry) → Whole ts es → Whole (park t m e ts) es
   unfolding park retake
   park-whole m e ts es h =
       by-test (λ (us : List Thread). Whole us es) (hasUnpark (threadAt ts t .state)) (λ z. announced-whole _ es _ _ (same-put ts es (setRunnable (threadAt ts t)) refl refl h))
       (λ z. same-put ts es _ refl refl h)
 
+  -- a wait, once it is queued
   wait-whole : (m : ObjectId) (v : World) → Lengths v → Lengths (waiting t m v)
   unfolding wait mutexEffect
   wait-whole m v h =
@@ -104,6 +116,7 @@ module _ (t : ThreadId) where
       place-whole _ (v .objects) m _ (park-whole m _ _ (v .objects) g) (r .1)
 
   module _ (within : t .0 < 6) where
+    -- through operations that need no announcement
     passes : Passes t AnyOp There (λ n v. Lengths v) Lengths
     unfolding ended announceOp
     passes =
@@ -134,6 +147,7 @@ module _ (t : ThreadId) where
       unfolding operate
       in-effect-whole = effect-whole (op .call) (op .object) (recorded t op w) (dependent t op w) (w .objects) dependent-whole recorded-whole
 
+    -- a turn
     begins : (table : Table) (w : World) → Lengths w → Begins table w t AnyOp There (λ n v. Lengths v) Lengths
     unfolding retake
     begins table w h =
@@ -148,6 +162,7 @@ module _ (t : ThreadId) where
           retakes = λ m o e. announced-whole (w .threads) (w .objects) _ _ h;
         }
 
+  -- an answer to a question
   answers : (table : Table) (w : World) → Lengths w → Answers table w t AnyOp Lengths
   unfolding announceOp spurious
   answers table w h =
@@ -159,6 +174,7 @@ module _ (t : ThreadId) where
             (notify-put Six six-join refl any (entryIn w (op .object)) _ (h .objects (op .object .0)) (h .objects (op .object .0) .notify));
       }
 
+-- a thread at the start
 start-six : (n j : ℕ) (x : Thread) → One Six any j x → One Six any j (startThread n j x)
 unfolding startThread
 start-six n j x h = by-test (One Six any j) (ltb j n) (λ e. h) (λ e. h)
@@ -179,18 +195,22 @@ start-whole table l =
     }
 
 module _ (table : Table) (n : Within table) (w : World) (g : Good table w) (h : Lengths w) where
+  -- each decision keeps it
   decide-whole : (d : ℕ) (v : World) → step table w d ≡ outcome.wants v → Lengths v
   decide-whole = wanted-passes table n w g AnyOp (any-left table w) tt There (λ t m v. Lengths v) Lengths h (λ t l. begins t l table w h) (λ t r. answers t table w h)
 
+  -- and what an effect takes is there
   each-there : (d : ℕ) → Each There table w d
   each-there = decide-each table n w g AnyOp (any-left table w) tt There (λ t m v. Lengths v) Lengths h (λ t l. begins t l table w h) (λ t r. answers t table w h)
 
 -- in every world that a run of an accepted table reaches, and before each effect of a further decision
 module _ (bs list : List ℕ) (table : Table) (w : World) (a : readTable bs ≡ accepted table) (e : Reached table list w) where
+  -- in the world
   pub lengths : Lengths w
   lengths =
       let h = read-within bs table a in
       run-by table (h .0) (λ u v. Lengths v) (λ u v d x g l i s. decide-whole table (h .0) v g i d x s) (h .1) (start-whole table (objects-there bs table a)) list w e .1 .1
 
+  -- before each effect
   pub there : (d : ℕ) → Each There table w d
   there d = each-there table (read-within bs table a .0) w (reached-good bs list table w a e) lengths d

@@ -30,6 +30,7 @@ no-more v i [] w e = let q : _≡_ {A = ℕ} 0 1 = cc in omega (arith, q)
 no-more v i (d ∷ l) w e = let q : _≡_ {A = ℕ} 0 1 = cc in omega (arith, q)
 
 module _ (table : Table) (n : Within table) where
+  -- a position counts a thread's operations
   pub step-on : (k p : ℕ) → drop (risen 255 p) (opsOf table k) ≡ drop 1 (drop p (opsOf table k))
   step-on k p = ops-next table k p (n .ops)
 
@@ -39,6 +40,7 @@ module _ (table : Table) (n : Within table) where
     abbrev pub Stands : ℕ → World → Type 0
     Stands u w = Good table w × I u w × (u + left table w ≤ 582)
 
+    -- the rest of a list, from a world on
     run-from : (list : List ℕ) (i u : ℕ) (w v : World) → Stands u w → judge (step table) i w list ≡ unfinished v → (m : ℕ) × Stands m v
     unfolding judge
     run-from [] i u w v s e = let q : w ≡ v = cc in (u, subst (Stands u) q s)

@@ -19,11 +19,13 @@ use Rattle.ends.specs.Each.{AnyOp, any-left, wanted-passes}
 abbrev Few : ℕ → World → Type 0
 Few u w = w .turn ≤ u
 
+-- none is taken at the start
 start-few : (table : Table) → Few 0 (start table)
 unfolding start
 start-few table = omega arith
 
 module _ (table : Table) (n : Within table) (u : ℕ) (w : World) (g : Good table w) (few : Few u w) where
+  -- a decision raises it by one at most
   decide-few : (d : ℕ) (v : World) → step table w d ≡ outcome.wants v → Few (suc u) v
   unfolding spurious
   decide-few =
@@ -46,5 +48,6 @@ turn-few bs list table w a e =
     let r = run-by table (h .0) Few (λ u v d x g l i s. decide-few table (h .0) u v g i d x s) (h .1) (start-few table) list w e in
     omega (arith, r .1 .1, r .1 .2)
 
+-- so it rises by one
 pub turn-rises : (bs list : List ℕ) (table : Table) (w : World) → readTable bs ≡ accepted table → Reached table list w → risen 65535 (w .turn) ≡ w .turn + 1
 turn-rises bs list table w a e = omega (arith, turn-few bs list table w a e)

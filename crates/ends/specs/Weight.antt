@@ -18,18 +18,14 @@ use Rattle.rules.specs.TableLaws.{Within}
 use Rattle.rules.specs.Turn.{threadIn, opsLeft}
 use Rattle.ends.specs.Moves.{Clocks}
 
+-- by the position and the phase
 abbrev pub weightOf : ℕ → Phase → ℕ
 weightOf p Nothing = 6 * p
 weightOf p (Announced a) = 6 * p
 weightOf p Parked = 6 * p + 3
 weightOf p (Retaking a) = 6 * p + 3
 
-pub weight-low : (p : ℕ) (f : Phase) → 6 * p ≤ weightOf p f
-weight-low p Nothing = omega arith
-weight-low p (Announced a) = omega arith
-weight-low p Parked = omega arith
-weight-low p (Retaking a) = omega arith
-
+-- six for each operation done, and three more at most
 pub weight-high : (p : ℕ) (f : Phase) → weightOf p f ≤ 6 * p + 3
 weight-high p Nothing = omega arith
 weight-high p (Announced a) = omega arith
