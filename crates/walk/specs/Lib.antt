@@ -1,6 +1,7 @@
 pub mod Shape
 pub mod Stage
 pub mod Falling
+pub mod Allowed
 pub mod Machine
 pub mod Accepted
 pub mod Length
