@@ -2,20 +2,12 @@
 ghost use mathlib.Core.Path.{_≡_};
 ghost use mathlib.Core.List.{[], _∷_};
 ghost use Prim.Native.Nat.{_+_, _*_, _<_};
-ghost use lib.ListN.{length, set};
+ghost use lib.ListN.{length};
 ghost use lib.Seq.{sets};
 ghost use Rattle.rules.specs.Sheet.{each};
 ghost use Rattle.rules.specs.Walk.{hexDigit, decisionText};
 ghost use Rattle.listing.specs.Line.{decisionBytes, numberDigit};
-
-// One byte; past the end nothing is written.
-fn put(out: &mut [u8], at: usize, b: u8)
-    ensures { λ _. ⌜ now (out .exit) ≡ set (now (out .entry)) at b ⌝ }
-{
-    if at < out.len() {
-        out[at] = b;
-    }
-}
+use tables::sheet::put;
 
 fn hex_digit(n: u8) -> u8
     requires { ⌜ n < 16 ⌝ }

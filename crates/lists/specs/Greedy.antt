@@ -2,7 +2,7 @@
 --     seek p n k        the least number of k, .., k + n - 1 that passes p, and k + n if none does
 --     smallest, larger  the least allowed decision, and the least one above d: `top` or more if there is none
 --     greedy f w        the smallest allowed decision again and again, at most f times, until a verdict
---     greedy-least, greedy-complete, greedy-first, greedy-enough, greedy-tight; complete-length
+--     greedy-least, greedy-complete, greedy-first, greedy-enough; complete-length
 use mathlib.Core.Path.{_≡_, refl}
 use mathlib.Core.Logic.{_⊎_, inl, inr}
 use mathlib.Core.Bool.{Bool, true, false, cond}
@@ -145,9 +145,6 @@ module _ {W Verdict : Type 0} (decide : W → ℕ → Outcome W Verdict) (top : 
       is (done v) n = refl
       is (wants w′) n = refl
 
-  pub smallest-below-top : (w : W) → Good w → smallest decide top w < top
-  smallest-below-top w g = allowed-below w (smallest decide top w) g (smallest-allowed w g)
-
   -- one allowed decision and then greedy is complete
   pub step-complete : (f : ℕ) → ((w′ : W) → Good w′ → left w′ < f → Complete decide w′ (greedy decide top f w′))
       → (w : W) (d : ℕ) → Good w → left w ≤ f → allowed decide w d ≡ true → Complete decide w (d ∷ goOn (decide w d) (greedy decide top f))
@@ -171,22 +168,6 @@ module _ {W Verdict : Type 0} (decide : W → ℕ → Outcome W Verdict) (top : 
   -- more fuel changes nothing
   pub greedy-enough : (f h : ℕ) (w : W) → Good w → left w < f → left w < h → greedy decide top f w ≡ greedy decide top h w
   greedy-enough f h w g a b = first-unique decide w (greedy decide top f w) (greedy decide top h w) (greedy-first f w g a) (greedy-first h w g b)
-
-  -- where `left` is a bound on the decisions that are left, so that it is not 0 in a good world, as much fuel as that is enough
-  pub greedy-tight : ((w : W) → Good w → 0 < left w) → (f : ℕ) (w : W) → Good w → left w ≤ f → IsFirst decide w (greedy decide top f w)
-  unfolding greedy
-  greedy-tight positive f w g h =
-      record { whole = inside f w g h; least = greedy-least decide top f w }
-    where
-      inside : (f : ℕ) (w : W) → Good w → left w ≤ f → Complete decide w (greedy decide top f w)
-      inside zero w g h = absurd (omega (arith, positive w g))
-      inside (suc f) w g h = go (decide w (smallest decide top w)) refl (inside f)
-        where
-          go : (o : Outcome W Verdict) → decide w (smallest decide top w) ≡ o → ((w′ : W) → Good w′ → left w′ ≤ f → Complete decide w′ (greedy decide top f w′))
-              → Complete decide w (smallest decide top w ∷ goOn o (greedy decide top f))
-          go refused e ih = absurd (let a = smallest-allowed w g in let q : _≡_ {A = ℕ} 0 1 = cc in omega arith)
-          go (done v) e ih = complete-done decide w (smallest decide top w) v e
-          go (wants w′) e ih = complete-wants decide w (smallest decide top w) w′ (greedy decide top f w′) e (ih w′ (keeps w _ w′ g e) (omega (arith, falls w _ w′ g e)))
 
   -- uses `keeps` and `falls`: no complete list is longer than this
   pub complete-length : (l : List ℕ) (w : W) → Good w → Complete decide w l → length l ≤ suc (left w)

@@ -1,7 +1,7 @@
 -- Lists of numbers compared byte by byte: the first difference decides, and a list is below its own extensions.
 --     l <ₗ m, l ≤ₗ m      the orders
 --     trichotomy          of two lists one is smaller, or they are equal
---     less-trans, less-irrefl, less-asym, le-antisym, le-less-trans, less-le-trans, cons-less, cons-le
+--     less-trans, less-irrefl, less-asym, le-antisym, cons-less, cons-le
 use mathlib.Core.Path.{_≡_, refl, sym, _∙_}
 use mathlib.Core.Logic.{_⊎_, inl, inr}
 use mathlib.Core.List.{List, [], _∷_}
@@ -45,14 +45,6 @@ less-irrefl (x ∷ l) p = go (less-irrefl l) p
 pub less-asym : (l m : List ℕ) → l <ₗ m → m <ₗ l → ⊥
 less-asym l m p q = less-irrefl l (less-trans l m l p q)
 
-pub le-less-trans : (l m n : List ℕ) → l ≤ₗ m → m <ₗ n → l <ₗ n
-le-less-trans l m n (inl e) q = rw e q
-le-less-trans l m n (inr p) q = less-trans l m n p q
-
-pub less-le-trans : (l m n : List ℕ) → l <ₗ m → m ≤ₗ n → l <ₗ n
-less-le-trans l m n p (inl e) = rw (← e) p
-less-le-trans l m n p (inr q) = less-trans l m n p q
-
 pub le-antisym : (l m : List ℕ) → l ≤ₗ m → m ≤ₗ l → l ≡ m
 le-antisym l m (inl e) q = e
 le-antisym l m (inr p) (inl e) = sym e
@@ -71,15 +63,6 @@ trichotomy (x ∷ l) (y ∷ m) = go (decLt x y) (decLt y x) (trichotomy l m)
     go (no a) (no b) (inl p) = inl (inr (omega arith, p))
     go (no a) (no b) (inr (inl e)) = let xy : x ≡ y = omega arith in inr (inl (cc))
     go (no a) (no b) (inr (inr q)) = inr (inr (inr (omega arith, q)))
-
--- what is not larger is at most
-pub le-of-not-less : (l m : List ℕ) → (m <ₗ l → ⊥) → l ≤ₗ m
-le-of-not-less l m n = go (trichotomy l m)
-  where
-    go : (l <ₗ m) ⊎ ((l ≡ m) ⊎ (m <ₗ l)) → l ≤ₗ m
-    go (inl p) = inr p
-    go (inr (inl e)) = inl e
-    go (inr (inr q)) = absurd (n q)
 
 -- the same first number
 pub cons-less : (x : ℕ) (l m : List ℕ) → l <ₗ m → (x ∷ l) <ₗ (x ∷ m)

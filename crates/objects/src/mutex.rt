@@ -1,6 +1,6 @@
 // loom's rt/mutex.rs.
 ghost use mathlib.Core.Path.{_≡_};
-ghost use Rattle.rules.specs.Mutex.{new, isLocked, taking, postAcquire, releaseLock, withAccess};
+ghost use Rattle.rules.specs.Mutex.{new, isLocked, postAcquire, releaseLock};
 use crate::access;
 use crate::thread::others;
 use crate::thread::sync_load;

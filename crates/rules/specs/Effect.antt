@@ -25,7 +25,7 @@ use Rattle.rules.specs.declared.thread.Thread.{Thread}
 use Rattle.rules.specs.declared.table.Call.{Call}
 use Rattle.rules.specs.declared.table.Call.the-variants.{Mutex, RwLock, Condvar, Notify, Channel, Arc, Cell}
 use Rattle.rules.specs.declared.world.Effect.{Effect}
-use Rattle.rules.specs.Ground.{withAnswer, threadAt, putThread}
+use Rattle.rules.specs.Ground.{flag, withAnswer, threadAt, putThread}
 use Rattle.rules.specs.Object.{putMutex, putRwLock, putCondvar, putNotify, putChannel, putArc, putCell}
 use Rattle.rules.specs.Mutex as mutex
 use Rattle.rules.specs.RwLock as rwlock
@@ -59,16 +59,12 @@ noRoomUnless false = ending.NoRoom
 unfoldable pub answered : ThreadId → ℕ → List Thread → List Thread
 answered a n ts = putThread ts a (withAnswer (threadAt ts a) n)
 
-abbrev pub yesNo : Bool → ℕ
-yesNo true = 1
-yesNo false = 0
-
 -- What each operation does, a kind of object at a time. "An acquire, recv or wait whose condition fails when it takes effect is misuse."
 abbrev pub mutexTaken : Entry → MutexAcquired → Effect
 mutexTaken e r = record { ending = misuseUnless (r .taken); entry = putMutex e (r .state); threads = r .threads }
 
 abbrev pub mutexTried : ThreadId → Entry → MutexAcquired → Effect
-mutexTried a e r = record { ending = ending.Fine; entry = putMutex e (r .state); threads = answered a (yesNo (r .taken)) (r .threads) }
+mutexTried a e r = record { ending = ending.Fine; entry = putMutex e (r .state); threads = answered a (flag (r .taken)) (r .threads) }
 
 abbrev pub mutexReleased : Entry → MutexReleased → Effect
 mutexReleased e r = record { ending = ending.Fine; entry = putMutex e (r .state); threads = r .threads }
@@ -82,7 +78,7 @@ abbrev pub rwlockTaken : Entry → RwLockAcquired → Effect
 rwlockTaken e r = record { ending = misuseUnless (r .taken); entry = putRwLock e (r .state); threads = r .threads }
 
 abbrev pub rwlockTried : ThreadId → Entry → RwLockAcquired → Effect
-rwlockTried a e r = record { ending = ending.Fine; entry = putRwLock e (r .state); threads = answered a (yesNo (r .taken)) (r .threads) }
+rwlockTried a e r = record { ending = ending.Fine; entry = putRwLock e (r .state); threads = answered a (flag (r .taken)) (r .threads) }
 
 abbrev pub rwlockReleased : Entry → RwLockReleased → Effect
 rwlockReleased e r = record { ending = misuseUnless (r .done); entry = putRwLock e (r .state); threads = r .threads }

@@ -22,6 +22,11 @@ use Rattle.rules.specs.declared.thread.Thread.{Thread}
 use Rattle.rules.specs.declared.thread.Change.{Change}
 use Rattle.rules.specs.declared.thread.Change.the-variants.{Wake, Block, BlockWriters, BlockReceivers, Unpark}
 
+-- yes and no as numbers
+abbrev pub flag : Bool → ℕ
+flag true = 1
+flag false = 0
+
 -- a thread record with one field changed
 abbrev pub withState : Thread → State → Thread
 withState t s = record { state = s; phase = t .phase; position = t .position; «last_answer» = t .«last_answer»; clock = t .clock; dependence = t .dependence }

@@ -1,5 +1,4 @@
 -- Document 01, "The sheet": "Threads, then objects", a definition for each record.
-use mathlib.Core.Bool.{Bool, true, false}
 use mathlib.Core.List.{List, [], _∷_, _++_, map}
 use Prim.Native.Nat.{ℕ, zero, suc, _+_, _*_, _%_}
 use lib.ListN.{getD, take, drop}
@@ -28,7 +27,7 @@ use Rattle.rules.specs.declared.thread.Thread.{Thread}
 use Rattle.rules.specs.declared.table.Made.{Made}
 use Rattle.rules.specs.declared.table.Table.{Table}
 use Rattle.rules.specs.declared.world.World.{World}
-use Rattle.rules.specs.Ground.{absent}
+use Rattle.rules.specs.Ground.{flag, absent}
 use Rattle.rules.specs.Object.{newEntry}
 
 -- the first n of a list, filled up to n
@@ -44,10 +43,6 @@ each f (x ∷ xs) = f x ++ each f xs
 -- a count as a byte: no run takes one past 193
 abbrev pub byte : ℕ → ℕ
 byte n = n % 256
-
-abbrev pub flag : Bool → ℕ
-flag true = 1
-flag false = 0
 
 -- "clock 6"
 abbrev pub clockBytes : Clock → List ℕ

@@ -6,8 +6,8 @@ ghost use Prim.Native.Nat.{_<_, min};
 ghost use lib.ListN.{set, take};
 ghost use lib.Seq.{sets};
 ghost use Rattle.clocks.specs.Clock.{zeroClock};
-ghost use Rattle.rules.specs.Ground.{absent};
-ghost use Rattle.rules.specs.Sheet.{filled, each, byte, flag, clockBytes, stateByte, phaseByte, threadBytes, holderByte, mutexBytes, formByte, whoByte, rwlockBytes, number, condvarBytes, notifyBytes, channelBytes, arcBytes, cellBytes, objectBytes, objectsBytes, sheetOf, recordLength, objectsLength, sheetLength};
+ghost use Rattle.rules.specs.Ground.{flag, absent};
+ghost use Rattle.rules.specs.Sheet.{filled, each, byte, clockBytes, stateByte, phaseByte, threadBytes, holderByte, mutexBytes, formByte, whoByte, rwlockBytes, number, condvarBytes, notifyBytes, channelBytes, arcBytes, cellBytes, objectBytes, objectsBytes, sheetOf, recordLength, objectsLength, sheetLength};
 use clocks::Clock;
 use clocks::THREADS;
 use clocks::ThreadId;
@@ -34,7 +34,7 @@ use rules::thread::Thread;
 use rules::world::World;
 
 // One byte; past the end nothing is written.
-fn put(sheet: &mut [u8], at: usize, b: u8)
+pub fn put(sheet: &mut [u8], at: usize, b: u8)
     ensures { λ _. ⌜ now (sheet .exit) ≡ set (now (sheet .entry)) at b ⌝ }
 {
     if at < sheet.len() {

@@ -20,12 +20,12 @@ use Rattle.rules.specs.declared.world.Asked.{Asked}
 use Rattle.rules.specs.declared.world.Asked.the-variants as asked
 use Rattle.rules.specs.declared.world.World.{World}
 use Rattle.rules.specs.declared.world.Decided.{Decided}
-use Rattle.rules.specs.Ground.{threadAt, isRunnable}
+use Rattle.rules.specs.Ground.{flag, threadAt, isRunnable}
 use Rattle.rules.specs.Object.{putEntry}
 use Rattle.rules.specs.Table.{noOp, opsOf}
 use Rattle.rules.specs.Turn.{threadIn, entryIn, wants, done, afterTurn, allEnded, anyRunnable, leakCheck, stuck, settled, wait, goOn, turnOf, question, opsLeft}
 use Rattle.rules.specs.Judge.{Verdict, outcomeOf, step, Given, untouched}
-use Rattle.rules.specs.Sheet.{flag, sheetOf}
+use Rattle.rules.specs.Sheet.{sheetOf}
 use Rattle.turns.specs.declared.step.Move.{Move}
 use Rattle.turns.specs.declared.step.Move.the-variants.{Begins, Answers, Goes, Waits}
 use Rattle.turns.specs.declared.step.Deed.{Deed}

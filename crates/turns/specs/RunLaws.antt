@@ -35,6 +35,7 @@ use Rattle.rules.specs.declared.world.World.{World}
 use Rattle.rules.specs.declared.world.Effect.{Effect}
 use Rattle.rules.specs.declared.object.Entry.{Entry}
 use Rattle.rules.specs.declared.world.Decided.{Decided}
+use Rattle.rules.specs.Ground.{flag}
 use Rattle.rules.specs.Object.{newEntry, noObject}
 use Rattle.rules.specs.Effect.{effect}
 use Rattle.rules.specs.Announce.{isFree, asks}
@@ -42,7 +43,6 @@ use Rattle.rules.specs.Table.{noOp, opsOf}
 use Rattle.rules.specs.TableLaws.{split, ops-few, ops-next}
 use Rattle.rules.specs.Turn as turn
 use Rattle.rules.specs.Turn.{threadIn, entryIn, withThreads, withTurn, withAsked, wants, done, refused, afterTurn, afterStep, allEnded, anyRunnable, mutexOf, settled, endingOf, spot, advance, operate, goOn, turnOf, question, opsLeft, begin, decideAt, decide, leakCheck}
-use Rattle.rules.specs.Sheet.{flag}
 use Rattle.rules.specs.Judge.{Verdict, outcomeOf, step}
 use Rattle.turns.specs.declared.step.Move.{Move}
 use Rattle.turns.specs.declared.step.Move.the-variants.{Begins, Answers, Goes, Waits}

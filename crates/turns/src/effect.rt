@@ -1,6 +1,7 @@
 // What each operation does to its object and to the threads, a kind of object at a time.
 ghost use mathlib.Core.Path.{_≡_};
-ghost use Rattle.rules.specs.Effect.{misuseUnless, noRoomUnless, answered, yesNo, mutexTaken, mutexTried, mutexReleased, mutexEffect, rwlockTaken, rwlockTried, rwlockReleased, rwlockEffect, condvarQueued, condvarNotified, condvarEffect, notifyNotified, notifyWaited, notifyEffect, channelSent, channelReceived, channelEffect, arcCounted, arcAnswered, arcEffect, cellTouched, cellEffect, effect};
+ghost use Rattle.rules.specs.Ground.{flag};
+ghost use Rattle.rules.specs.Effect.{misuseUnless, noRoomUnless, answered, mutexTaken, mutexTried, mutexReleased, mutexEffect, rwlockTaken, rwlockTried, rwlockReleased, rwlockEffect, condvarQueued, condvarNotified, condvarEffect, notifyNotified, notifyWaited, notifyEffect, channelSent, channelReceived, channelEffect, arcCounted, arcAnswered, arcEffect, cellTouched, cellEffect, effect};
 use clocks::THREADS;
 use clocks::ThreadId;
 use objects::thread::get;
@@ -32,7 +33,7 @@ fn no_room_unless(done: bool) -> Ending
 }
 
 fn yes_no(b: bool) -> u16
-    ensures { λ r. ⌜ r ≡ yesNo b ⌝ }
+    ensures { λ r. ⌜ r ≡ flag b ⌝ }
 {
     if b { 1 } else { 0 }
 }
