@@ -14,7 +14,6 @@ use Rattle.rules.specs.declared.object.ObjectId.{ObjectId}
 use Rattle.rules.specs.declared.object.Entry.{Entry}
 use Rattle.rules.specs.declared.thread.Thread.{Thread}
 use Rattle.rules.specs.declared.table.Table.{Table}
-use Rattle.rules.specs.declared.answer.Answer.{Answer}
 use Rattle.rules.specs.declared.answer.Answer.the-variants.{Deadlock, More, NotAllowed, Surplus}
 use Rattle.rules.specs.declared.world.Asked.{Asked}
 use Rattle.rules.specs.declared.world.Asked.the-variants as asked
@@ -123,10 +122,6 @@ weight (Does x) = moveWeight (x .moves) - 1
 weight Over = 2
 weight AllEnded = 1
 weight (Done a) = 0
-
--- a verdict at `at` of a list of n
-unfoldable pub endAt : Answer → ℕ → ℕ → World → World → Ran
-endAt a at n given reached = elim (ltb at n) [ true ↦ record { end = end.Surplus at; world = given } | false ↦ record { end = end.Verdict a; world = reached } ]
 
 -- a judgement as the code hands it back; a refusal comes with the world that was given
 unfoldable pub ranOf : World → Judged World Verdict → Ran

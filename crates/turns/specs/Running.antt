@@ -6,7 +6,7 @@ use Prim.Native.Nat.{ℕ, _+_, _-_, _*_, _≤_, _<_}
 use native.Mathlib.Omega.{arith}
 use lib.Dec.{ltb}
 use lib.ListN.{length, getD, length-set, List·getD-eq-default}
-use borrow.Author.Tests.{ltb-true, ltb-false, lt-ltb, le-ltb}
+use borrow.Author.Tests.{lt-ltb, le-ltb}
 use Rattle.clocks.specs.Lists.{getD-within}
 use Rattle.lists.specs.Judge.{judge}
 use Rattle.rules.specs.declared.object.ObjectId.{ObjectId}
@@ -19,7 +19,6 @@ use Rattle.rules.specs.declared.world.Asked.{Asked}
 use Rattle.rules.specs.declared.world.World.{World}
 use Rattle.rules.specs.Object.{newEntry, noObject, entryAt, putEntry}
 use Rattle.rules.specs.Table.{noOp}
-use Rattle.rules.specs.TableLaws.{split}
 use Rattle.rules.specs.Turn.{leakCheck}
 use Rattle.rules.specs.Judge.{outcomeOf, step}
 use Rattle.turns.specs.declared.step.Move.{Move}
@@ -30,7 +29,7 @@ use Rattle.turns.specs.declared.step.Scene.{Scene}
 use Rattle.turns.specs.declared.step.Moved.{Moved}
 use Rattle.turns.specs.declared.run.End.the-variants as end
 use Rattle.turns.specs.Step.{subject, act}
-use Rattle.turns.specs.Run.{placeOf, deedOf, isAllowed, chosen, after, decided, Fits, rest, Running, moveWeight, weight, endAt, ranOf}
+use Rattle.turns.specs.Run.{placeOf, deedOf, isAllowed, chosen, after, decided, Fits, rest, Running, moveWeight, weight, ranOf}
 use Rattle.turns.specs.RunLaws.{rest-end, rest-refused, rest-chosen, rest-deed, rest-over, rest-all-ended, rest-verdict, rest-surplus, rest-act, act-fits, after-fits, act-lighter, after-light, chosen-weight, moves-heavier}
 
 module _ (table : Table) (list : List ℕ) (given : World) where
@@ -55,11 +54,13 @@ module _ (table : Table) (list : List ℕ) (given : World) where
     unfolding ranOf
     not-allowed e h f = sym (ap (ranOf given) (now-left Nobody e ∙ rest-refused table list at w h f))
 
-    pub told : (a : Answer) → acting ≡ Done a → endAt a at (length list) given w ≡ ranOf given (judge (step table) 0 given list)
-    unfolding ranOf endAt
-    told a e =
-        split (ltb at (length list)) (λ t. rw (endAt, t) (sym (ap (ranOf given) (now-left (Done a) e ∙ rest-surplus table list at w a (ltb-true at (length list) t)))))
-        (λ t. rw (endAt, t) (sym (ap (ranOf given) (now-left (Done a) e ∙ rest-verdict table list at w a (ltb-false at (length list) t)))))
+    pub surplus-left : (a : Answer) → acting ≡ Done a → at < length list → record { end = end.Surplus at; world = given } ≡ ranOf given (judge (step table) 0 given list)
+    unfolding ranOf
+    surplus-left a e h = sym (ap (ranOf given) (now-left (Done a) e ∙ rest-surplus table list at w a h))
+
+    pub verdict-reached : (a : Answer) → acting ≡ Done a → length list ≤ at → record { end = end.Verdict a; world = w } ≡ ranOf given (judge (step table) 0 given list)
+    unfolding ranOf
+    verdict-reached a e h = sym (ap (ranOf given) (now-left (Done a) e ∙ rest-verdict table list at w a h))
 
     pub decision : acting ≡ Nobody → at < length list → isAllowed who ts (getD list at 0) ≡ true → (m : Move) → m ≡ chosen who (getD list at 0)
         → Running table list given ts es n who (Moves m) (at + 1)

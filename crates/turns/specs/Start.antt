@@ -1,14 +1,17 @@
 -- The start, and what a run shows, as the code makes them.
 use mathlib.Core.Path.{_≡_, refl, sym, _∙_, ap}
+use mathlib.Core.Bool.{Bool, true, false, false≢true}
 use mathlib.Core.List.{List, map}
-use Prim.Native.Nat.{ℕ, _≤_, _<_}
+use Prim.Native.Nat.{ℕ, zero, suc, _+_, _≤_, _<_}
 use native.Mathlib.Omega.{arith}
-use lib.ListN.{length, getD, length-map, List·getD-map}
-use lib.Seq.{ext-getD}
+use lib.ListN.{length, getD, replicate, length-replicate, length-map, List·getD-map}
+use lib.Seq.{ext-getD, set-getD}
 use borrow.Author.Tests.{le-leb, lt-leb}
-use Rattle.clocks.specs.Pass.{passFrom, pass-length, pass-at}
+use Rattle.clocks.specs.Pass.{passFrom, passed, passed-next, turned, pass-length, pass-at}
 use Rattle.lists.specs.Judge.{Judged, notAllowed, surplus, unfinished, verdict, judge}
 use Rattle.rules.specs.declared.object.Entry.{Entry}
+use Rattle.rules.specs.declared.object.Kind.{Kind}
+use Rattle.rules.specs.declared.object.Kind.the-variants as kind
 use Rattle.rules.specs.declared.table.Made.{Made}
 use Rattle.rules.specs.declared.table.Table.{Table}
 use Rattle.rules.specs.declared.table.Taken.the-variants.{Accepted, Refused}
@@ -33,6 +36,41 @@ made-all ms es h =
     let same = pass-length (madeAt ms) 0 es in
     ext-getD (newEntry noObject) (passFrom (madeAt ms) 0 es) (map newEntry ms) (same ∙ h ∙ sym (length-map ms newEntry))
     (λ i l. pass-at (madeAt ms) i es (newEntry noObject) (omega (arith, same, l)) ∙ sym (List·getD-map newEntry ms i noObject))
+
+-- a place that the table makes nothing of is as it was
+abbrev pub isMade : Kind → Bool → Bool
+isMade kind.Mutex s = true
+isMade kind.RwLock s = true
+isMade kind.Condvar s = true
+isMade kind.Notify s = true
+isMade kind.Channel s = true
+isMade kind.Arc s = true
+isMade kind.Cell s = true
+isMade kind.Nothing s = s
+
+not-made : (k : Kind) (s : Bool) → isMade k s ≡ false → noObject ≡ record { kind = k; spurious = s }
+not-made kind.Mutex s h = absurd (false≢true (sym h))
+not-made kind.RwLock s h = absurd (false≢true (sym h))
+not-made kind.Condvar s h = absurd (false≢true (sym h))
+not-made kind.Notify s h = absurd (false≢true (sym h))
+not-made kind.Channel s h = absurd (false≢true (sym h))
+not-made kind.Arc s h = absurd (false≢true (sym h))
+not-made kind.Cell s h = absurd (false≢true (sym h))
+not-made kind.Nothing true h = absurd (false≢true (sym h))
+not-made kind.Nothing false h = refl
+
+filled : {X : Type 0} (x : X) (n k : ℕ) → getD (replicate n x) k x ≡ x
+filled x zero k = refl
+filled x (suc n) zero = refl
+filled x (suc n) (suc k) = filled x n k
+
+pub left-out : (ms : List Made) (k : ℕ) (x : Entry) (z : List Entry) → x ≡ newEntry noObject → k < 16 → z ≡ passed (madeAt ms) k 0 (replicate 16 x)
+    → isMade (getD ms k noObject .kind) (getD ms k noObject .spurious) ≡ false → z ≡ passed (madeAt ms) (k + 1) 0 (replicate 16 x)
+left-out ms k x z e l h f =
+    let m : Made = getD ms k noObject in
+    let within : k < length (replicate 16 x) = omega (arith, l, length-replicate 16 x) in
+    let same : getD z k x ≡ x = ap (λ (es : List Entry). getD es k x) h ∙ passed-next (madeAt ms) k 0 (replicate 16 x) x ∙ filled x 16 k in
+    sym (set-getD z k x) ∙ turned (madeAt ms) k (replicate 16 x) x z (getD z k x) within h (same ∙ e ∙ ap newEntry (not-made (m .kind) (m .spurious) f))
 
 -- where the buffer has room for the sheet, what a run shows is what its judgement shows
 pub shows : (table : Table) (w : World) (buffer : List ℕ) → sheetLength table ≤ length buffer

@@ -8,6 +8,7 @@ ghost use Rattle.rules.specs.Object.{newEntry};
 ghost use Rattle.rules.specs.Turn.{startThread, start};
 ghost use Rattle.rules.specs.Judge.{judgeOf};
 ghost use Rattle.turns.specs.Run.{showing};
+ghost use Rattle.turns.specs.Start.{isMade};
 use crate::run::End;
 use crate::run::run;
 use clocks::THREADS;
@@ -16,6 +17,7 @@ use objects::thread::absent;
 use objects::thread::with_state;
 use rules::answer::Answer;
 use rules::object::Entry;
+use rules::object::Kind;
 use rules::object::OBJECTS;
 use rules::table::Made;
 use rules::table::Table;
@@ -51,6 +53,22 @@ fn start_threads(n: u8) -> [Thread; THREADS]
     out
 }
 
+// A place of the store that the table makes an object of.
+fn is_made(kind: Kind, spurious: bool) -> bool
+    ensures { λ r. ⌜ r ≡ isMade kind spurious ⌝ }
+{
+    match kind {
+        Kind::Nothing => spurious,
+        Kind::Mutex => true,
+        Kind::RwLock => true,
+        Kind::Condvar => true,
+        Kind::Notify => true,
+        Kind::Channel => true,
+        Kind::Arc => true,
+        Kind::Cell => true,
+    }
+}
+
 fn start_objects(objects: [Made; OBJECTS]) -> [Entry; OBJECTS]
     ensures { λ r. ⌜ r ≡ map newEntry objects ⌝ }
 {
@@ -58,7 +76,10 @@ fn start_objects(objects: [Made; OBJECTS]) -> [Entry; OBJECTS]
     let mut out = [nothing; OBJECTS];
     for k in 0..OBJECTS {
         let made = objects[k];
-        out[k] = object::new_entry(made);
+        let kind = made.kind;
+        if is_made(kind, made.spurious) {
+            out[k] = object::new_entry(made);
+        }
     }
     out
 }

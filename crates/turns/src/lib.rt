@@ -1,10 +1,7 @@
 // The judge: decisions are taken one at a time, and a list is judged.
 mod after;
-mod announce;
-mod effect;
 pub mod judge;
 mod loud;
 mod quiet;
 pub mod run;
 mod step;
-mod turn;

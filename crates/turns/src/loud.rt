@@ -1,17 +1,17 @@
 // The steps that change their object: an operation's effect, the end of a spurious wake, and the second half of a condvar wait.
 ghost use mathlib.Core.Path.{_≡_};
 ghost use Rattle.turns.specs.Loud.{again, opIn, turnIn, askedIn, spurious, loudly, isWait, afterwards, settledBy, isFine, failedAs, nextOf, follows};
-use crate::effect::effect;
 use crate::step::Acting;
 use crate::step::Move;
 use crate::step::mutex_of;
 use crate::step::one_more_turn;
-use crate::turn::advance;
-use crate::turn::one_more;
-use crate::turn::operate;
-use crate::turn::wait;
 use clocks::THREADS;
 use clocks::ThreadId;
+use effects::effect::effect;
+use effects::turn::advance;
+use effects::turn::one_more;
+use effects::turn::operate;
+use effects::turn::wait;
 use objects::notify;
 use objects::thread::get;
 use objects::thread::put;

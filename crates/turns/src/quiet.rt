@@ -1,14 +1,14 @@
 // The steps that leave their object as it is: each changes its own thread at most, so that no object and no other thread is handed on.
 ghost use mathlib.Core.Path.{_≡_};
 ghost use Rattle.turns.specs.Quiet.{who, isBegun, rests, stops, isQuiet, isBarred, announcedOn, retakenOn, over, begins, goesOn, quietly};
-use crate::announce::action_of;
-use crate::announce::is_disabled;
-use crate::announce::is_free;
 use crate::step::Acting;
 use crate::step::Move;
 use crate::step::mutex_of;
 use crate::step::one_more_turn;
 use clocks::ThreadId;
+use effects::announce::action_of;
+use effects::announce::is_disabled;
+use effects::announce::is_free;
 use objects::mutex::is_locked;
 use objects::object::branch_disable;
 use objects::thread::with_phase;

@@ -4,12 +4,11 @@ ghost use Rattle.lists.specs.Judge.{judge};
 ghost use Rattle.rules.specs.Judge.{step};
 ghost use Rattle.turns.specs.declared.step.Acting.the-variants.{Does};
 ghost use Rattle.turns.specs.Quiet.{placeIn, allowedIn};
-ghost use Rattle.turns.specs.Run.{placeAt, chosen, after, endAt, ranOf};
+ghost use Rattle.turns.specs.Run.{placeAt, chosen, after, ranOf};
 use crate::after::all_ended;
 use crate::after::any_runnable;
 use crate::after::leak_check;
 use crate::after::stuck;
-use crate::announce::asks;
 use crate::loud::asked_in;
 use crate::loud::follows;
 use crate::loud::is_fine;
@@ -28,6 +27,7 @@ use crate::step::Move;
 use crate::step::subject;
 use clocks::THREADS;
 use clocks::ThreadId;
+use effects::announce::asks;
 use objects::object;
 use objects::thread::absent;
 use objects::thread::is_runnable;
@@ -122,40 +122,30 @@ fn does(m: Move, left: bool, op: Op) -> Acting
     })
 }
 
-fn world_of(threads: [Thread; THREADS], objects: [Entry; OBJECTS], turn: u16, asked: Asked) -> World
-    ensures { λ r. ⌜ r ≡ record { threads = threads; objects = objects; turn = turn; asked = asked } ⌝ }
+fn came_to(
+    end: End,
+    threads: [Thread; THREADS],
+    objects: [Entry; OBJECTS],
+    turn: u16,
+    asked: Asked,
+) -> Ran
+    ensures { λ r. ⌜ r ≡ record { end = end; world = record { threads = threads; objects = objects; turn = turn; asked = asked } } ⌝ }
 {
-    World {
+    let world = World {
         threads: threads,
         objects: objects,
         turn: turn,
         asked: asked,
-    }
-}
-
-fn came_to(end: End, world: World) -> Ran
-    ensures { λ r. ⌜ r ≡ record { end = end; world = world } ⌝ }
-{
+    };
     Ran {
         end: end,
         world: world,
     }
 }
 
-// A verdict, if the list ends there.
-fn verdict(a: Answer, at: usize, n: usize, given: World, reached: World) -> Ran
-    ensures { λ r. ⌜ r ≡ endAt a at n given reached ⌝ }
-{
-    if at < n {
-        return came_to(End::Surplus(at), given);
-    }
-    came_to(End::Verdict(a), reached)
-}
-
 pub fn run(table: Table, world: World, list: &[u8]) -> Ran
     ensures { λ r. ⌜ r ≡ ranOf world (judge (step table) 0 world (now (list .entry))) ⌝ }
 {
-    let ops = table.ops;
     let mut threads = world.threads;
     let mut objects = world.objects;
     let mut turn = world.turn;
@@ -166,7 +156,7 @@ pub fn run(table: Table, world: World, list: &[u8]) -> Ran
         match acting {
             Acting::Nobody => {
                 if at >= list.len() {
-                    return came_to(End::Unfinished, world_of(threads, objects, turn, asked));
+                    return came_to(End::Unfinished, threads, objects, turn, asked);
                 }
                 let d = list[at];
                 let m = chosen(asked, d);
@@ -174,7 +164,10 @@ pub fn run(table: Table, world: World, list: &[u8]) -> Ran
                 let x = if i < THREADS { threads[i] } else { absent() };
                 let state = x.state;
                 if !is_allowed(asked, state, d) {
-                    return came_to(End::NotAllowed(at), world);
+                    return Ran {
+                        end: End::NotAllowed(at),
+                        world: world,
+                    };
                 }
                 acting = Acting::Moves(m);
                 at += 1;
@@ -185,7 +178,7 @@ pub fn run(table: Table, world: World, list: &[u8]) -> Ran
                 let x = if i < THREADS { threads[i] } else { absent() };
                 let k = place_of(counts, x.position, m);
                 if k < 192 {
-                    let op = ops[k];
+                    let op = table.ops[k];
                     acting = does(m, true, op);
                 } else {
                     acting = does(m, false, no_op());
@@ -240,8 +233,13 @@ pub fn run(table: Table, world: World, list: &[u8]) -> Ran
                 acting = Acting::Done(leak_check(objects));
             }
             Acting::Done(a) => {
-                let reached = world_of(threads, objects, turn, asked);
-                return verdict(a, at, list.len(), world, reached);
+                if at < list.len() {
+                    return Ran {
+                        end: End::Surplus(at),
+                        world: world,
+                    };
+                }
+                return came_to(End::Verdict(a), threads, objects, turn, asked);
             }
         }
     }

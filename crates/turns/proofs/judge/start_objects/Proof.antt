@@ -1,7 +1,8 @@
 -- `judge::start_objects` meets its contract: it is a pass.
-use mathlib.Core.Path.{_≡_, refl, _∙_, ap}
+use mathlib.Core.Path.{_≡_, refl, sym, _∙_, ap}
 use mathlib.Core.List.{List}
-use Prim.Native.Nat.{_≤_, _<_, _-_}
+use mathlib.Core.Logic.{inl, inr}
+use Prim.Native.Nat.{_+_, _≤_, _<_, _-_}
 use native.Mathlib.Omega.{arith}
 use lib.ListN.{length, replicate, length-replicate}
 use Rattle.clocks.specs.Lists.{getD-within}
@@ -9,7 +10,7 @@ use Rattle.clocks.specs.Pass.{passed, turned, ended}
 use Rattle.rules.specs.declared.table.Made.{Made}
 use Rattle.rules.specs.declared.object.Entry.{Entry}
 use Rattle.rules.specs.Object.{noObject, newEntry}
-use Rattle.turns.specs.Start.{madeAt, made-all}
+use Rattle.turns.specs.Start.{madeAt, made-all, isMade, left-out}
 use borrow.Author.Needs.{needs}
 use Rattle.turns.proofs.judge.start_objects.Statement.{statement}
 use Rattle.turns.proofs.judge.start_objects.Tie as tie
@@ -35,6 +36,9 @@ mul-made c = search needs
 array-copy-out-made : tie.Need-array-copy-out-made Inv-loop μ-loop
 array-copy-out-made c = search needs
 
+is-made-requires : tie.Need-is-made-requires Inv-loop μ-loop
+is-made-requires c κs = search needs
+
 new-entry-requires : tie.Need-new-entry-requires Inv-loop μ-loop
 new-entry-requires c κs = search needs
 
@@ -52,11 +56,22 @@ loop-less c = search needs
 
 loop-again : tie.Need-loop-again Inv-loop μ-loop
 loop-again c =
-    let l = c .before .before .before .loop in
-    let ms : List Made = c .before .before .before .before .before .args .t1 in
-    let es : List Entry = replicate 16 (c .before .before .before .before .absent .result) in
-    let within : l .k < length ms = omega (arith, l .inv .1, c .before .before .loop-test .taken) in
-    (omega (arith, c .before .before .loop-test .taken), l .inv .1, l .inv .2, turned (madeAt ms) (l .k) es (newEntry noObject) _ _ (omega (arith, l .inv .2, c .before .before .loop-test .taken)) (l .inv .3) (c .new-entry .ensures ∙ ap newEntry (getD-within ms (l .k) _ noObject within)))
+    let l = c .before .before .before .before .loop in
+    let ms : List Made = c .before .before .before .before .before .before .args .t1 in
+    let absent = c .before .before .before .before .before .absent in
+    let es : List Entry = replicate 16 (absent .result) in
+    let test = c .before .before .before .loop-test .taken in
+    let within : l .k < length ms = omega (arith, l .inv .1, test) in
+    let seen = getD-within ms (l .k) _ noObject within in
+    let made : c .if1 .out ≡ passed (madeAt ms) (l .k + 1) 0 es =
+    elim (c .if1 .came) [
+      | inl w ↦ w .2 ∙ turned (madeAt ms) (l .k) es (newEntry noObject) _ _ (omega (arith, l .inv .2, test)) (l .inv .3) (w .1 .ensures ∙ ap newEntry seen)
+      | inr w ↦
+          w .1
+          ∙ left-out ms (l .k) (absent .result) _ (absent .ensures) (omega (arith, test)) (l .inv .3)
+          (ap (λ (m : Made). isMade (m .kind) (m .spurious)) (sym seen) ∙ sym (c .before .is-made .ensures) ∙ w .0 .left)
+    ] in
+    (omega (arith, test), l .inv .1, l .inv .2, made)
 
 returns : tie.Need-returns Inv-loop μ-loop
 returns c =
@@ -75,6 +90,7 @@ start-objects-spec =
     loop-holds
     mul-made
     array-copy-out-made
+    is-made-requires
     new-entry-requires
     mul-out
     array-set-from-out

@@ -4,7 +4,6 @@ use Prim.Native.Nat.{ℕ}
 use Rattle.rules.specs.declared.answer.Spot.{Spot}
 use Rattle.turns.specs.declared.step.Move.{Move}
 use Rattle.turns.specs.declared.step.Move.the-variants.{Goes}
-use Rattle.turns.specs.declared.step.Acting.{Acting}
 use Rattle.turns.specs.declared.step.Acting.the-variants.{Moves}
 use Rattle.turns.specs.Loud.{failedAs, nextOf, follows}
 use borrow.Author.Needs.{needs}

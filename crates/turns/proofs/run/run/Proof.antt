@@ -10,12 +10,10 @@ use Rattle.rules.specs.declared.object.ObjectId.{ObjectId}
 use Rattle.rules.specs.declared.object.Entry.{Entry}
 use Rattle.rules.specs.declared.table.Op.{Op}
 use Rattle.rules.specs.Object.{entryAt}
-use Rattle.rules.specs.declared.world.World.{World}
 use Rattle.turns.specs.declared.step.Acting.{Acting}
-use Rattle.turns.specs.declared.run.End.the-variants.{Unfinished}
-use Rattle.turns.specs.Run.{moveWeight, endAt}
+use Rattle.turns.specs.Run.{moveWeight}
 use lib.ListN.{length-map}
-use Rattle.turns.specs.Running.{begun, ran-out, not-allowed, told, decision, decision-less, deed, deed-less, acted, acted-less, turn-over, turn-over-less, all-ended, all-ended-less, taken-there, taken-none, deed-there, deed-none}
+use Rattle.turns.specs.Running.{begun, ran-out, not-allowed, surplus-left, verdict-reached, decision, decision-less, deed, deed-less, acted, acted-less, turn-over, turn-over-less, all-ended, all-ended-less, taken-there, taken-none, deed-there, deed-none}
 use Prim.Native.Nat.{_+_, _-_, _*_}
 use lib.ListN.{length}
 use mathlib.Core.Bool.{Bool}
@@ -41,38 +39,33 @@ use Rattle.turns.proofs.run.run.Statement.{statement}
 use Rattle.turns.proofs.run.run.Tie as tie
 
 abbrev Inv-loop : tie.InvT-loop
-Inv-loop table world list ops threads₀ objects₀ turn₀ asked₀ acting₀ at₀ threads objects turn asked acting at =
+Inv-loop world list table threads₀ objects₀ turn₀ asked₀ acting₀ at₀ threads objects turn asked acting at =
     Running table list world threads objects turn asked acting at × (length threads ≡ 6)
 
 abbrev μ-loop : tie.MeasureT-loop
-μ-loop table world list ops threads₀ objects₀ turn₀ asked₀ acting₀ at₀ threads objects turn asked acting at =
+μ-loop world list table threads₀ objects₀ turn₀ asked₀ acting₀ at₀ threads objects turn asked acting at =
     2000 * (length list - at) + weight acting
 
 loop-holds : tie.Need-loop-holds Inv-loop μ-loop
 loop-holds c =
-    let objects : List Entry = c .before .before .before .before .args .world .objects in
-    let threads : List Thread = c .before .before .before .before .args .world .threads in
-    let all : length objects ≡ 16 = sym (length-map objects _) ∙ c .before .before .before .before .good .1 .0 .1 .1 .1 .0 .1 .0 .1 in
-    let six : length threads ≡ 6 = sym (length-map threads _) ∙ c .before .before .before .before .good .1 .0 .1 .1 .0 .1 .0 .1 in
+    let objects : List Entry = c .before .before .before .args .world .objects in
+    let threads : List Thread = c .before .before .before .args .world .threads in
+    let all : length objects ≡ 16 = sym (length-map objects _) ∙ c .before .before .before .good .1 .0 .1 .1 .1 .0 .1 .0 .1 in
+    let six : length threads ≡ 6 = sym (length-map threads _) ∙ c .before .before .before .good .1 .0 .1 .1 .0 .1 .0 .1 in
     (begun _ _ _ all, six)
 
 enum-told : tie.Need-enum-told Inv-loop μ-loop
 enum-told c = search needs
-
-world-of-requires : tie.Need-world-of-requires Inv-loop μ-loop
-world-of-requires c κs = search needs
 
 came-to-requires : tie.Need-came-to-requires Inv-loop μ-loop
 came-to-requires c κs = search needs
 
 returns : tie.Need-returns Inv-loop μ-loop
 returns c =
-    let l = c .before .before .before .before .before .loop in
-    let a = c .before .before .before .before .before .before .before .before .before .before .args in
+    let l = c .before .before .before .before .loop in
+    let a = c .before .before .before .before .before .before .before .before .args in
     let list : List ℕ = a .list .now in
-    c .came-to .ensures
-    ∙ ap (λ (w : World). record { end = Unfinished; world = w }) (c .before .world-of .ensures)
-    ∙ ran-out (a .table) list (a .world) (l .threads) (l .objects) (l .turn) (l .asked) (l .acting) (l .at) (l .inv .0) (c .before .before .before .enum-told .given .1) (c .before .before .if1 .taken)
+    c .came-to .ensures ∙ ran-out (a .t1) list (a .world) (l .threads) (l .objects) (l .turn) (l .asked) (l .acting) (l .at) (l .inv .0) (c .before .before .enum-told .given .1) (c .before .if1 .taken)
 
 shared-slice-read-d : tie.Need-shared-slice-read-d Inv-loop μ-loop
 shared-slice-read-d c = search needs
@@ -98,42 +91,10 @@ absent-requires c κs = search needs
 is-allowed-requires : tie.Need-is-allowed-requires Inv-loop μ-loop
 is-allowed-requires c κs = search needs
 
-came-to-requires-2 : tie.Need-came-to-requires-2 Inv-loop μ-loop
-came-to-requires-2 c κs = search needs
-
 returns-2 : tie.Need-returns-2 Inv-loop μ-loop
 returns-2 c =
-    let l = c .before .before .before .before .before .before .before .before .before .before .before .loop in
-    let a = c .before .before .before .before .before .before .before .before .before .before .before .before .before .before .before .before .args in
-    let list : List ℕ = a .list .now in
-    let d : ℕ = getD list (l .at) 0 in
-    let ts : List Thread = l .threads in
-    let six : length ts ≡ 6 = l .inv .1 in
-    let t : ThreadId = c .before .before .before .before .before .who .result in
-    let x : Thread = c .before .before .before .if2 .x in
-    let found : x ≡ threadAt ts t =
-    elim (c .before .before .before .if2 .came) [
-      | inl w ↦ w .2 ∙ getD-within ts (t .0) _ _ (omega (arith, w .0 .taken, six))
-      | inr w ↦ w .2 ∙ w .1 .ensures ∙ sym (List·getD-eq-default ts _ (omega (arith, w .0 .left, six)))
-    ] in
-    let seen : x ≡ threadAt ts (who (chosen (l .asked) d)) = found ∙ ap (threadAt ts) (c .before .before .before .before .before .who .ensures ∙ ap who (c .before .before .before .before .before .before .chosen .ensures)) in
-    let told = allowed-in (l .asked) ts d ∙ ap (λ (y : Thread). allowedIn (l .asked) (y .state) d) (sym seen) ∙ sym (c .before .before .is-allowed .ensures) in
-    c .came-to2 .ensures ∙ not-allowed (a .table) list (a .world) (l .threads) (l .objects) (l .turn) (l .asked) (l .acting) (l .at) (l .inv .0) (c .before .before .before .before .before .before .before .before .before .enum-told .given .1) (omega (arith, c .before .before .before .before .before .before .before .before .if1 .left)) (told ∙ not-true _ (c .before .if3 .taken))
-
-add-at : tie.Need-add-at Inv-loop μ-loop
-add-at c = search needs
-
-loop-less : tie.Need-loop-less Inv-loop μ-loop
-loop-less c =
     let l = c .before .before .before .before .before .before .before .before .before .before .loop in
-    let a = c .before .before .before .before .before .before .before .before .before .before .before .before .before .before .before .args in
-    let list : List ℕ = a .list .now in
-    decision-less (a .table) list (a .world) (l .threads) (l .objects) (l .turn) (l .asked) (l .acting) (l .at) (l .inv .0) (omega (arith, c .before .before .before .before .before .before .before .if1 .left)) _ (c .before .before .before .before .before .chosen .ensures)
-
-loop-again : tie.Need-loop-again Inv-loop μ-loop
-loop-again c =
-    let l = c .before .before .before .before .before .before .before .before .before .before .loop in
-    let a = c .before .before .before .before .before .before .before .before .before .before .before .before .before .before .before .args in
+    let a = c .before .before .before .before .before .before .before .before .before .before .before .before .before .before .args in
     let list : List ℕ = a .list .now in
     let d : ℕ = getD list (l .at) 0 in
     let ts : List Thread = l .threads in
@@ -147,7 +108,36 @@ loop-again c =
     ] in
     let seen : x ≡ threadAt ts (who (chosen (l .asked) d)) = found ∙ ap (threadAt ts) (c .before .before .before .before .who .ensures ∙ ap who (c .before .before .before .before .before .chosen .ensures)) in
     let told = allowed-in (l .asked) ts d ∙ ap (λ (y : Thread). allowedIn (l .asked) (y .state) d) (sym seen) ∙ sym (c .before .is-allowed .ensures) in
-    (decision (a .table) list (a .world) (l .threads) (l .objects) (l .turn) (l .asked) (l .acting) (l .at) (l .inv .0) (c .before .before .before .before .before .before .before .before .enum-told .given .1) (omega (arith, c .before .before .before .before .before .before .before .if1 .left)) (told ∙ not-false _ (c .if3 .left)) _ (c .before .before .before .before .before .chosen .ensures), six)
+    not-allowed (a .t1) list (a .world) (l .threads) (l .objects) (l .turn) (l .asked) (l .acting) (l .at) (l .inv .0) (c .before .before .before .before .before .before .before .before .enum-told .given .1) (omega (arith, c .before .before .before .before .before .before .before .if1 .left)) (told ∙ not-true _ (c .if3 .taken))
+
+add-at : tie.Need-add-at Inv-loop μ-loop
+add-at c = search needs
+
+loop-less : tie.Need-loop-less Inv-loop μ-loop
+loop-less c =
+    let l = c .before .before .before .before .before .before .before .before .before .before .loop in
+    let a = c .before .before .before .before .before .before .before .before .before .before .before .before .before .before .args in
+    let list : List ℕ = a .list .now in
+    decision-less (a .t1) list (a .world) (l .threads) (l .objects) (l .turn) (l .asked) (l .acting) (l .at) (l .inv .0) (omega (arith, c .before .before .before .before .before .before .before .if1 .left)) _ (c .before .before .before .before .before .chosen .ensures)
+
+loop-again : tie.Need-loop-again Inv-loop μ-loop
+loop-again c =
+    let l = c .before .before .before .before .before .before .before .before .before .before .loop in
+    let a = c .before .before .before .before .before .before .before .before .before .before .before .before .before .before .args in
+    let list : List ℕ = a .list .now in
+    let d : ℕ = getD list (l .at) 0 in
+    let ts : List Thread = l .threads in
+    let six : length ts ≡ 6 = l .inv .1 in
+    let t : ThreadId = c .before .before .before .before .who .result in
+    let x : Thread = c .before .before .if2 .x in
+    let found : x ≡ threadAt ts t =
+    elim (c .before .before .if2 .came) [
+      | inl w ↦ w .2 ∙ getD-within ts (t .0) _ _ (omega (arith, w .0 .taken, six))
+      | inr w ↦ w .2 ∙ w .1 .ensures ∙ sym (List·getD-eq-default ts _ (omega (arith, w .0 .left, six)))
+    ] in
+    let seen : x ≡ threadAt ts (who (chosen (l .asked) d)) = found ∙ ap (threadAt ts) (c .before .before .before .before .who .ensures ∙ ap who (c .before .before .before .before .before .chosen .ensures)) in
+    let told = allowed-in (l .asked) ts d ∙ ap (λ (y : Thread). allowedIn (l .asked) (y .state) d) (sym seen) ∙ sym (c .before .is-allowed .ensures) in
+    (decision (a .t1) list (a .world) (l .threads) (l .objects) (l .turn) (l .asked) (l .acting) (l .at) (l .inv .0) (c .before .before .before .before .before .before .before .before .enum-told .given .1) (omega (arith, c .before .before .before .before .before .before .before .if1 .left)) (told ∙ not-false _ (c .if3 .left)) _ (c .before .before .before .before .before .chosen .ensures), six)
 
 enum-known-acting : tie.Need-enum-known-acting Inv-loop μ-loop
 enum-known-acting c = search needs
@@ -173,8 +163,8 @@ place-of-requires c κs = search needs
 mul-op : tie.Need-mul-op Inv-loop μ-loop
 mul-op c = search needs
 
-array-copy-out-op : tie.Need-array-copy-out-op Inv-loop μ-loop
-array-copy-out-op c = search needs
+element-copy-out-op : tie.Need-element-copy-out-op Inv-loop μ-loop
+element-copy-out-op c = search needs
 
 does-requires : tie.Need-does-requires Inv-loop μ-loop
 does-requires c κs = search needs
@@ -182,21 +172,21 @@ does-requires c κs = search needs
 loop-less-2 : tie.Need-loop-less-2 Inv-loop μ-loop
 loop-less-2 c =
     let l = c .before .before .before .before .before .before .before .before .before .before .before .loop in
-    let a = c .before .before .before .before .before .before .before .before .before .before .before .before .before .before .before .before .args in
+    let a = c .before .before .before .before .before .before .before .before .before .before .before .before .before .before .before .args in
     let list : List ℕ = a .list .now in
     let m = c .before .before .before .before .before .before .before .before .before .acting .given .0 .0 in
     let same : weight (c .does .result) ≡ moveWeight m - 1 = ap weight (c .does .ensures) in
-    let less = deed-less (a .table) list (a .world) (l .threads) (l .objects) (l .turn) (l .asked) (l .acting) (l .at) (l .inv .0) m (c .before .before .before .before .before .before .before .before .before .acting .given .1) in
+    let less = deed-less (a .t1) list (a .world) (l .threads) (l .objects) (l .turn) (l .asked) (l .acting) (l .at) (l .inv .0) m (c .before .before .before .before .before .before .before .before .before .acting .given .1) in
     omega (arith, same, less)
 
 loop-again-2 : tie.Need-loop-again-2 Inv-loop μ-loop
 loop-again-2 c =
     let l = c .before .before .before .before .before .before .before .before .before .before .before .loop in
-    let a = c .before .before .before .before .before .before .before .before .before .before .before .before .before .before .before .before .args in
+    let a = c .before .before .before .before .before .before .before .before .before .before .before .before .before .before .before .args in
     let list : List ℕ = a .list .now in
     let m = c .before .before .before .before .before .before .before .before .before .acting .given .0 .0 in
-    let ops : List Op = a .table .ops in
-    let long : length ops ≡ 192 = sym (length-map ops _) ∙ c .before .before .before .before .before .before .before .before .before .before .before .before .before .before .before .before .good .0 .1 .1 .1 .1 .0 .1 .0 .1 in
+    let ops : List Op = a .t1 .ops in
+    let long : length ops ≡ 192 = sym (length-map ops _) ∙ c .before .before .before .before .before .before .before .before .before .before .before .before .before .before .before .good .0 .1 .1 .1 .1 .0 .1 .0 .1 in
     let ts : List Thread = l .threads in
     let six : length ts ≡ 6 = l .inv .1 in
     let t : ThreadId = c .before .before .before .before .before .before .who2 .result in
@@ -207,9 +197,9 @@ loop-again-2 c =
       | inr w ↦ w .2 ∙ w .1 .ensures ∙ sym (List·getD-eq-default ts _ (omega (arith, w .0 .left, six)))
     ] in
     let seen : x ≡ threadAt ts (who (m)) = found ∙ ap (threadAt ts) (c .before .before .before .before .before .before .who2 .ensures) in
-    let at : c .before .before .before .place-of .result ≡ placeOf (a .table .counts) ts m = c .before .before .before .place-of .ensures ∙ ap (λ (y : Thread). placeIn (a .table .counts) (y .position) m) seen ∙ sym (place-in (a .table .counts) ts m) in
-    let made = deed-there (a .table) ts m _ at long _ (c .before .before .if5 .taken) in
-    (subst (λ (y : Acting). Running (a .table) list (a .world) ts (l .objects) (l .turn) (l .asked) y (l .at)) (sym (c .does .ensures)) (deed (a .table) list (a .world) (l .threads) (l .objects) (l .turn) (l .asked) (l .acting) (l .at) (l .inv .0) m (c .before .before .before .before .before .before .before .before .before .acting .given .1) _ made), six)
+    let at : c .before .before .before .place-of .result ≡ placeOf (a .t1 .counts) ts m = c .before .before .before .place-of .ensures ∙ ap (λ (y : Thread). placeIn (a .t1 .counts) (y .position) m) seen ∙ sym (place-in (a .t1 .counts) ts m) in
+    let made = deed-there (a .t1) ts m _ at long _ (c .before .before .if5 .taken) in
+    (subst (λ (y : Acting). Running (a .t1) list (a .world) ts (l .objects) (l .turn) (l .asked) y (l .at)) (sym (c .does .ensures)) (deed (a .t1) list (a .world) (l .threads) (l .objects) (l .turn) (l .asked) (l .acting) (l .at) (l .inv .0) m (c .before .before .before .before .before .before .before .before .before .acting .given .1) _ made), six)
 
 no-op-requires : tie.Need-no-op-requires Inv-loop μ-loop
 no-op-requires c κs = search needs
@@ -220,21 +210,21 @@ does-requires-2 c κs = search needs
 loop-less-3 : tie.Need-loop-less-3 Inv-loop μ-loop
 loop-less-3 c =
     let l = c .before .before .before .before .before .before .before .before .before .before .before .loop in
-    let a = c .before .before .before .before .before .before .before .before .before .before .before .before .before .before .before .before .args in
+    let a = c .before .before .before .before .before .before .before .before .before .before .before .before .before .before .before .args in
     let list : List ℕ = a .list .now in
     let m = c .before .before .before .before .before .before .before .before .before .acting .given .0 .0 in
     let same : weight (c .does2 .result) ≡ moveWeight m - 1 = ap weight (c .does2 .ensures) in
-    let less = deed-less (a .table) list (a .world) (l .threads) (l .objects) (l .turn) (l .asked) (l .acting) (l .at) (l .inv .0) m (c .before .before .before .before .before .before .before .before .before .acting .given .1) in
+    let less = deed-less (a .t1) list (a .world) (l .threads) (l .objects) (l .turn) (l .asked) (l .acting) (l .at) (l .inv .0) m (c .before .before .before .before .before .before .before .before .before .acting .given .1) in
     omega (arith, same, less)
 
 loop-again-3 : tie.Need-loop-again-3 Inv-loop μ-loop
 loop-again-3 c =
     let l = c .before .before .before .before .before .before .before .before .before .before .before .loop in
-    let a = c .before .before .before .before .before .before .before .before .before .before .before .before .before .before .before .before .args in
+    let a = c .before .before .before .before .before .before .before .before .before .before .before .before .before .before .before .args in
     let list : List ℕ = a .list .now in
     let m = c .before .before .before .before .before .before .before .before .before .acting .given .0 .0 in
-    let ops : List Op = a .table .ops in
-    let long : length ops ≡ 192 = sym (length-map ops _) ∙ c .before .before .before .before .before .before .before .before .before .before .before .before .before .before .before .before .good .0 .1 .1 .1 .1 .0 .1 .0 .1 in
+    let ops : List Op = a .t1 .ops in
+    let long : length ops ≡ 192 = sym (length-map ops _) ∙ c .before .before .before .before .before .before .before .before .before .before .before .before .before .before .before .good .0 .1 .1 .1 .1 .0 .1 .0 .1 in
     let ts : List Thread = l .threads in
     let six : length ts ≡ 6 = l .inv .1 in
     let t : ThreadId = c .before .before .before .before .before .before .who2 .result in
@@ -245,9 +235,9 @@ loop-again-3 c =
       | inr w ↦ w .2 ∙ w .1 .ensures ∙ sym (List·getD-eq-default ts _ (omega (arith, w .0 .left, six)))
     ] in
     let seen : x ≡ threadAt ts (who (m)) = found ∙ ap (threadAt ts) (c .before .before .before .before .before .before .who2 .ensures) in
-    let at : c .before .before .before .place-of .result ≡ placeOf (a .table .counts) ts m = c .before .before .before .place-of .ensures ∙ ap (λ (y : Thread). placeIn (a .table .counts) (y .position) m) seen ∙ sym (place-in (a .table .counts) ts m) in
-    let made = deed-none (a .table) ts m _ at long _ (c .before .no-op .ensures) (c .before .before .if5 .left) in
-    (subst (λ (y : Acting). Running (a .table) list (a .world) ts (l .objects) (l .turn) (l .asked) y (l .at)) (sym (c .does2 .ensures)) (deed (a .table) list (a .world) (l .threads) (l .objects) (l .turn) (l .asked) (l .acting) (l .at) (l .inv .0) m (c .before .before .before .before .before .before .before .before .before .acting .given .1) _ made), six)
+    let at : c .before .before .before .place-of .result ≡ placeOf (a .t1 .counts) ts m = c .before .before .before .place-of .ensures ∙ ap (λ (y : Thread). placeIn (a .t1 .counts) (y .position) m) seen ∙ sym (place-in (a .t1 .counts) ts m) in
+    let made = deed-none (a .t1) ts m _ at long _ (c .before .no-op .ensures) (c .before .before .if5 .left) in
+    (subst (λ (y : Acting). Running (a .t1) list (a .world) ts (l .objects) (l .turn) (l .asked) y (l .at)) (sym (c .does2 .ensures)) (deed (a .t1) list (a .world) (l .threads) (l .objects) (l .turn) (l .asked) (l .acting) (l .at) (l .inv .0) m (c .before .before .before .before .before .before .before .before .before .acting .given .1) _ made), six)
 
 enum-known-acting-2 : tie.Need-enum-known-acting-2 Inv-loop μ-loop
 enum-known-acting-2 c = search needs
@@ -306,10 +296,10 @@ array-set-from-threads c = search needs
 loop-less-4 : tie.Need-loop-less-4 Inv-loop μ-loop
 loop-less-4 c =
     let l = c .before .before .before .before .before .before .before .before .before .before .before .before .before .before .before .before .before .before .loop in
-    let a = c .before .before .before .before .before .before .before .before .before .before .before .before .before .before .before .before .before .before .before .before .before .before .before .args in
+    let a = c .before .before .before .before .before .before .before .before .before .before .before .before .before .before .before .before .before .before .before .before .before .before .args in
     let list : List ℕ = a .list .now in
-    let ops : List Op = a .table .ops in
-    let long : length ops ≡ 192 = sym (length-map ops _) ∙ c .before .before .before .before .before .before .before .before .before .before .before .before .before .before .before .before .before .before .before .before .before .before .before .good .0 .1 .1 .1 .1 .0 .1 .0 .1 in
+    let ops : List Op = a .t1 .ops in
+    let long : length ops ≡ 192 = sym (length-map ops _) ∙ c .before .before .before .before .before .before .before .before .before .before .before .before .before .before .before .before .before .before .before .before .before .before .good .0 .1 .1 .1 .1 .0 .1 .0 .1 in
     let deed : Deed = c .before .before .before .before .before .before .before .before .before .before .before .before .before .before .before .before .acting2 .given .0 .0 in
     let m = deed .moves in
     let op = deed .op in
@@ -340,16 +330,16 @@ loop-less-4 c =
     let made : q ≡ quietly m (deed .left) op (isBarred (isBegun m) (op .call) e) (asks (op .call) e) (threadAt ts (who m)) (l .turn) (l .asked) =
     c .before .before .quietly .ensures ∙ (λ i. quietly m (deed .left) op (barred i) (c .before .before .before .asks .ensures i) (seen i) (l .turn) (l .asked)) in
     let done = ap (λ (u : ThreadId). stayed s u q) (c .before .before .before .before .before .before .before .before .before .before .before .before .before .who3 .ensures) ∙ ap (stayed s (who m)) made ∙ sym (quiet-law op s m (deed .left) is-quiet) in
-    let less = acted-less (a .table) list (a .world) (l .threads) (l .objects) (l .turn) (l .asked) (l .acting) (l .at) (l .inv .0) deed (c .before .before .before .before .before .before .before .before .before .before .before .before .before .before .before .before .acting2 .given .1) long o about e out (stayed s t q) done in
+    let less = acted-less (a .t1) list (a .world) (l .threads) (l .objects) (l .turn) (l .asked) (l .acting) (l .at) (l .inv .0) deed (c .before .before .before .before .before .before .before .before .before .before .before .before .before .before .before .before .acting2 .given .1) long o about e out (stayed s t q) done in
     omega (arith, less)
 
 loop-again-4 : tie.Need-loop-again-4 Inv-loop μ-loop
 loop-again-4 c =
     let l = c .before .before .before .before .before .before .before .before .before .before .before .before .before .before .before .before .before .before .loop in
-    let a = c .before .before .before .before .before .before .before .before .before .before .before .before .before .before .before .before .before .before .before .before .before .before .before .args in
+    let a = c .before .before .before .before .before .before .before .before .before .before .before .before .before .before .before .before .before .before .before .before .before .before .args in
     let list : List ℕ = a .list .now in
-    let ops : List Op = a .table .ops in
-    let long : length ops ≡ 192 = sym (length-map ops _) ∙ c .before .before .before .before .before .before .before .before .before .before .before .before .before .before .before .before .before .before .before .before .before .before .before .good .0 .1 .1 .1 .1 .0 .1 .0 .1 in
+    let ops : List Op = a .t1 .ops in
+    let long : length ops ≡ 192 = sym (length-map ops _) ∙ c .before .before .before .before .before .before .before .before .before .before .before .before .before .before .before .before .before .before .before .before .before .before .good .0 .1 .1 .1 .1 .0 .1 .0 .1 in
     let deed : Deed = c .before .before .before .before .before .before .before .before .before .before .before .before .before .before .before .before .acting2 .given .0 .0 in
     let m = deed .moves in
     let op = deed .op in
@@ -380,16 +370,16 @@ loop-again-4 c =
     let made : q ≡ quietly m (deed .left) op (isBarred (isBegun m) (op .call) e) (asks (op .call) e) (threadAt ts (who m)) (l .turn) (l .asked) =
     c .before .before .quietly .ensures ∙ (λ i. quietly m (deed .left) op (barred i) (c .before .before .before .asks .ensures i) (seen i) (l .turn) (l .asked)) in
     let done = ap (λ (u : ThreadId). stayed s u q) (c .before .before .before .before .before .before .before .before .before .before .before .before .before .who3 .ensures) ∙ ap (stayed s (who m)) made ∙ sym (quiet-law op s m (deed .left) is-quiet) in
-    let next = acted (a .table) list (a .world) (l .threads) (l .objects) (l .turn) (l .asked) (l .acting) (l .at) (l .inv .0) deed (c .before .before .before .before .before .before .before .before .before .before .before .before .before .before .before .before .acting2 .given .1) long o about e out (stayed s t q) done objects (sym (ap (set objects (o .0)) out ∙ set-getD objects (o .0) _)) in
+    let next = acted (a .t1) list (a .world) (l .threads) (l .objects) (l .turn) (l .asked) (l .acting) (l .at) (l .inv .0) deed (c .before .before .before .before .before .before .before .before .before .before .before .before .before .before .before .before .acting2 .given .1) long o about e out (stayed s t q) done objects (sym (ap (set objects (o .0)) out ∙ set-getD objects (o .0) _)) in
     (next, length-set ts (t .0) (q .thread) ∙ six)
 
 loop-less-5 : tie.Need-loop-less-5 Inv-loop μ-loop
 loop-less-5 c =
     let l = c .before .before .before .before .before .before .before .before .before .before .before .before .before .before .before .before .before .before .loop in
-    let a = c .before .before .before .before .before .before .before .before .before .before .before .before .before .before .before .before .before .before .before .before .before .before .before .args in
+    let a = c .before .before .before .before .before .before .before .before .before .before .before .before .before .before .before .before .before .before .before .before .before .before .args in
     let list : List ℕ = a .list .now in
-    let ops : List Op = a .table .ops in
-    let long : length ops ≡ 192 = sym (length-map ops _) ∙ c .before .before .before .before .before .before .before .before .before .before .before .before .before .before .before .before .before .before .before .before .before .before .before .good .0 .1 .1 .1 .1 .0 .1 .0 .1 in
+    let ops : List Op = a .t1 .ops in
+    let long : length ops ≡ 192 = sym (length-map ops _) ∙ c .before .before .before .before .before .before .before .before .before .before .before .before .before .before .before .before .before .before .before .before .before .before .good .0 .1 .1 .1 .1 .0 .1 .0 .1 in
     let deed : Deed = c .before .before .before .before .before .before .before .before .before .before .before .before .before .before .before .before .acting2 .given .0 .0 in
     let m = deed .moves in
     let op = deed .op in
@@ -420,16 +410,16 @@ loop-less-5 c =
     let made : q ≡ quietly m (deed .left) op (isBarred (isBegun m) (op .call) e) (asks (op .call) e) (threadAt ts (who m)) (l .turn) (l .asked) =
     c .before .before .quietly .ensures ∙ (λ i. quietly m (deed .left) op (barred i) (c .before .before .before .asks .ensures i) (seen i) (l .turn) (l .asked)) in
     let done = ap (λ (u : ThreadId). stayed s u q) (c .before .before .before .before .before .before .before .before .before .before .before .before .before .who3 .ensures) ∙ ap (stayed s (who m)) made ∙ sym (quiet-law op s m (deed .left) is-quiet) in
-    let less = acted-less (a .table) list (a .world) (l .threads) (l .objects) (l .turn) (l .asked) (l .acting) (l .at) (l .inv .0) deed (c .before .before .before .before .before .before .before .before .before .before .before .before .before .before .before .before .acting2 .given .1) long o about e out (stayed s t q) done in
+    let less = acted-less (a .t1) list (a .world) (l .threads) (l .objects) (l .turn) (l .asked) (l .acting) (l .at) (l .inv .0) deed (c .before .before .before .before .before .before .before .before .before .before .before .before .before .before .before .before .acting2 .given .1) long o about e out (stayed s t q) done in
     omega (arith, less)
 
 loop-again-5 : tie.Need-loop-again-5 Inv-loop μ-loop
 loop-again-5 c =
     let l = c .before .before .before .before .before .before .before .before .before .before .before .before .before .before .before .before .before .before .loop in
-    let a = c .before .before .before .before .before .before .before .before .before .before .before .before .before .before .before .before .before .before .before .before .before .before .before .args in
+    let a = c .before .before .before .before .before .before .before .before .before .before .before .before .before .before .before .before .before .before .before .before .before .before .args in
     let list : List ℕ = a .list .now in
-    let ops : List Op = a .table .ops in
-    let long : length ops ≡ 192 = sym (length-map ops _) ∙ c .before .before .before .before .before .before .before .before .before .before .before .before .before .before .before .before .before .before .before .before .before .before .before .good .0 .1 .1 .1 .1 .0 .1 .0 .1 in
+    let ops : List Op = a .t1 .ops in
+    let long : length ops ≡ 192 = sym (length-map ops _) ∙ c .before .before .before .before .before .before .before .before .before .before .before .before .before .before .before .before .before .before .before .before .before .before .good .0 .1 .1 .1 .1 .0 .1 .0 .1 in
     let deed : Deed = c .before .before .before .before .before .before .before .before .before .before .before .before .before .before .before .before .acting2 .given .0 .0 in
     let m = deed .moves in
     let op = deed .op in
@@ -460,8 +450,8 @@ loop-again-5 c =
     let made : q ≡ quietly m (deed .left) op (isBarred (isBegun m) (op .call) e) (asks (op .call) e) (threadAt ts (who m)) (l .turn) (l .asked) =
     c .before .before .quietly .ensures ∙ (λ i. quietly m (deed .left) op (barred i) (c .before .before .before .asks .ensures i) (seen i) (l .turn) (l .asked)) in
     let done = ap (λ (u : ThreadId). stayed s u q) (c .before .before .before .before .before .before .before .before .before .before .before .before .before .who3 .ensures) ∙ ap (stayed s (who m)) made ∙ sym (quiet-law op s m (deed .left) is-quiet) in
-    let next = acted (a .table) list (a .world) (l .threads) (l .objects) (l .turn) (l .asked) (l .acting) (l .at) (l .inv .0) deed (c .before .before .before .before .before .before .before .before .before .before .before .before .before .before .before .before .acting2 .given .1) long o about e out (stayed s t q) done objects (sym (ap (set objects (o .0)) out ∙ set-getD objects (o .0) _)) in
-    (subst (λ (us : List Thread). Running (a .table) list (a .world) us objects (q .turn) (q .asked) (q .acting) (l .at)) (set-out ts (t .0) (q .thread) (omega (arith, c .if9 .left, six))) next, six)
+    let next = acted (a .t1) list (a .world) (l .threads) (l .objects) (l .turn) (l .asked) (l .acting) (l .at) (l .inv .0) deed (c .before .before .before .before .before .before .before .before .before .before .before .before .before .before .before .before .acting2 .given .1) long o about e out (stayed s t q) done objects (sym (ap (set objects (o .0)) out ∙ set-getD objects (o .0) _)) in
+    (subst (λ (us : List Thread). Running (a .t1) list (a .world) us objects (q .turn) (q .asked) (q .acting) (l .at)) (set-out ts (t .0) (q .thread) (omega (arith, c .if9 .left, six))) next, six)
 
 op-in-requires : tie.Need-op-in-requires Inv-loop μ-loop
 op-in-requires c κs = search needs
@@ -493,10 +483,10 @@ array-set-from-objects c = search needs
 loop-less-6 : tie.Need-loop-less-6 Inv-loop μ-loop
 loop-less-6 c =
     let l = c .before .before .before .before .before .before .before .before .before .before .before .before .before .before .before .before .before .before .before .before .before .before .before .loop in
-    let a = c .before .before .before .before .before .before .before .before .before .before .before .before .before .before .before .before .before .before .before .before .before .before .before .before .before .before .before .before .args in
+    let a = c .before .before .before .before .before .before .before .before .before .before .before .before .before .before .before .before .before .before .before .before .before .before .before .before .before .before .before .args in
     let list : List ℕ = a .list .now in
-    let ops : List Op = a .table .ops in
-    let long : length ops ≡ 192 = sym (length-map ops _) ∙ c .before .before .before .before .before .before .before .before .before .before .before .before .before .before .before .before .before .before .before .before .before .before .before .before .before .before .before .before .good .0 .1 .1 .1 .1 .0 .1 .0 .1 in
+    let ops : List Op = a .t1 .ops in
+    let long : length ops ≡ 192 = sym (length-map ops _) ∙ c .before .before .before .before .before .before .before .before .before .before .before .before .before .before .before .before .before .before .before .before .before .before .before .before .before .before .before .good .0 .1 .1 .1 .1 .0 .1 .0 .1 in
     let deed : Deed = c .before .before .before .before .before .before .before .before .before .before .before .before .before .before .before .before .before .before .before .before .before .acting2 .given .0 .0 in
     let m = deed .moves in
     let op = deed .op in
@@ -537,16 +527,16 @@ loop-less-6 c =
     let done : moved ≡ act m (deed .left) op s =
     (λ i. record { acting = acting i; scene = record { entry = is-r i .entry; threads = is-us i; turn = is-n i; asked = is-asked i } })
     ∙ sym (loud-fine op s m (deed .left) is-loud (is-fine ∙ c .before .before .before .before .before .if10 .taken)) in
-    let less = acted-less (a .table) list (a .world) (l .threads) (l .objects) (l .turn) (l .asked) (l .acting) (l .at) (l .inv .0) deed (c .before .before .before .before .before .before .before .before .before .before .before .before .before .before .before .before .before .before .before .before .before .acting2 .given .1) long o about e out moved done in
+    let less = acted-less (a .t1) list (a .world) (l .threads) (l .objects) (l .turn) (l .asked) (l .acting) (l .at) (l .inv .0) deed (c .before .before .before .before .before .before .before .before .before .before .before .before .before .before .before .before .before .before .before .before .before .acting2 .given .1) long o about e out moved done in
     omega (arith, less)
 
 loop-again-6 : tie.Need-loop-again-6 Inv-loop μ-loop
 loop-again-6 c =
     let l = c .before .before .before .before .before .before .before .before .before .before .before .before .before .before .before .before .before .before .before .before .before .before .before .loop in
-    let a = c .before .before .before .before .before .before .before .before .before .before .before .before .before .before .before .before .before .before .before .before .before .before .before .before .before .before .before .before .args in
+    let a = c .before .before .before .before .before .before .before .before .before .before .before .before .before .before .before .before .before .before .before .before .before .before .before .before .before .before .before .args in
     let list : List ℕ = a .list .now in
-    let ops : List Op = a .table .ops in
-    let long : length ops ≡ 192 = sym (length-map ops _) ∙ c .before .before .before .before .before .before .before .before .before .before .before .before .before .before .before .before .before .before .before .before .before .before .before .before .before .before .before .before .good .0 .1 .1 .1 .1 .0 .1 .0 .1 in
+    let ops : List Op = a .t1 .ops in
+    let long : length ops ≡ 192 = sym (length-map ops _) ∙ c .before .before .before .before .before .before .before .before .before .before .before .before .before .before .before .before .before .before .before .before .before .before .before .before .before .before .before .good .0 .1 .1 .1 .1 .0 .1 .0 .1 in
     let deed : Deed = c .before .before .before .before .before .before .before .before .before .before .before .before .before .before .before .before .before .before .before .before .before .acting2 .given .0 .0 in
     let m = deed .moves in
     let op = deed .op in
@@ -588,15 +578,15 @@ loop-again-6 c =
     (λ i. record { acting = acting i; scene = record { entry = is-r i .entry; threads = is-us i; turn = is-n i; asked = is-asked i } })
     ∙ sym (loud-fine op s m (deed .left) is-loud (is-fine ∙ c .before .before .before .before .before .if10 .taken)) in
     let still : length us ≡ 6 = c .before .before .settled .ok .1 .0 .1 in
-    (acted (a .table) list (a .world) (l .threads) (l .objects) (l .turn) (l .asked) (l .acting) (l .at) (l .inv .0) deed (c .before .before .before .before .before .before .before .before .before .before .before .before .before .before .before .before .before .before .before .before .before .acting2 .given .1) long o about e out moved done _ refl, still)
+    (acted (a .t1) list (a .world) (l .threads) (l .objects) (l .turn) (l .asked) (l .acting) (l .at) (l .inv .0) deed (c .before .before .before .before .before .before .before .before .before .before .before .before .before .before .before .before .before .before .before .before .before .acting2 .given .1) long o about e out moved done _ refl, still)
 
 loop-less-7 : tie.Need-loop-less-7 Inv-loop μ-loop
 loop-less-7 c =
     let l = c .before .before .before .before .before .before .before .before .before .before .before .before .before .before .before .before .before .before .before .before .before .before .before .loop in
-    let a = c .before .before .before .before .before .before .before .before .before .before .before .before .before .before .before .before .before .before .before .before .before .before .before .before .before .before .before .before .args in
+    let a = c .before .before .before .before .before .before .before .before .before .before .before .before .before .before .before .before .before .before .before .before .before .before .before .before .before .before .before .args in
     let list : List ℕ = a .list .now in
-    let ops : List Op = a .table .ops in
-    let long : length ops ≡ 192 = sym (length-map ops _) ∙ c .before .before .before .before .before .before .before .before .before .before .before .before .before .before .before .before .before .before .before .before .before .before .before .before .before .before .before .before .good .0 .1 .1 .1 .1 .0 .1 .0 .1 in
+    let ops : List Op = a .t1 .ops in
+    let long : length ops ≡ 192 = sym (length-map ops _) ∙ c .before .before .before .before .before .before .before .before .before .before .before .before .before .before .before .before .before .before .before .before .before .before .before .before .before .before .before .good .0 .1 .1 .1 .1 .0 .1 .0 .1 in
     let deed : Deed = c .before .before .before .before .before .before .before .before .before .before .before .before .before .before .before .before .before .before .before .before .before .acting2 .given .0 .0 in
     let m = deed .moves in
     let op = deed .op in
@@ -637,16 +627,16 @@ loop-less-7 c =
     let done : moved ≡ act m (deed .left) op s =
     (λ i. record { acting = acting i; scene = record { entry = is-r i .entry; threads = is-us i; turn = is-n i; asked = is-asked i } })
     ∙ sym (loud-fine op s m (deed .left) is-loud (is-fine ∙ c .before .before .before .before .before .if10 .taken)) in
-    let less = acted-less (a .table) list (a .world) (l .threads) (l .objects) (l .turn) (l .asked) (l .acting) (l .at) (l .inv .0) deed (c .before .before .before .before .before .before .before .before .before .before .before .before .before .before .before .before .before .before .before .before .before .acting2 .given .1) long o about e out moved done in
+    let less = acted-less (a .t1) list (a .world) (l .threads) (l .objects) (l .turn) (l .asked) (l .acting) (l .at) (l .inv .0) deed (c .before .before .before .before .before .before .before .before .before .before .before .before .before .before .before .before .before .before .before .before .before .acting2 .given .1) long o about e out moved done in
     omega (arith, less)
 
 loop-again-7 : tie.Need-loop-again-7 Inv-loop μ-loop
 loop-again-7 c =
     let l = c .before .before .before .before .before .before .before .before .before .before .before .before .before .before .before .before .before .before .before .before .before .before .before .loop in
-    let a = c .before .before .before .before .before .before .before .before .before .before .before .before .before .before .before .before .before .before .before .before .before .before .before .before .before .before .before .before .args in
+    let a = c .before .before .before .before .before .before .before .before .before .before .before .before .before .before .before .before .before .before .before .before .before .before .before .before .before .before .before .args in
     let list : List ℕ = a .list .now in
-    let ops : List Op = a .table .ops in
-    let long : length ops ≡ 192 = sym (length-map ops _) ∙ c .before .before .before .before .before .before .before .before .before .before .before .before .before .before .before .before .before .before .before .before .before .before .before .before .before .before .before .before .good .0 .1 .1 .1 .1 .0 .1 .0 .1 in
+    let ops : List Op = a .t1 .ops in
+    let long : length ops ≡ 192 = sym (length-map ops _) ∙ c .before .before .before .before .before .before .before .before .before .before .before .before .before .before .before .before .before .before .before .before .before .before .before .before .before .before .before .good .0 .1 .1 .1 .1 .0 .1 .0 .1 in
     let deed : Deed = c .before .before .before .before .before .before .before .before .before .before .before .before .before .before .before .before .before .before .before .before .before .acting2 .given .0 .0 in
     let m = deed .moves in
     let op = deed .op in
@@ -688,15 +678,15 @@ loop-again-7 c =
     (λ i. record { acting = acting i; scene = record { entry = is-r i .entry; threads = is-us i; turn = is-n i; asked = is-asked i } })
     ∙ sym (loud-fine op s m (deed .left) is-loud (is-fine ∙ c .before .before .before .before .before .if10 .taken)) in
     let still : length us ≡ 6 = c .before .before .settled .ok .1 .0 .1 in
-    (acted (a .table) list (a .world) (l .threads) (l .objects) (l .turn) (l .asked) (l .acting) (l .at) (l .inv .0) deed (c .before .before .before .before .before .before .before .before .before .before .before .before .before .before .before .before .before .before .before .before .before .acting2 .given .1) long o about e out moved done _ (sym (set-out objects (o .0) _ (omega (arith, c .if11 .left)))), still)
+    (acted (a .t1) list (a .world) (l .threads) (l .objects) (l .turn) (l .asked) (l .acting) (l .at) (l .inv .0) deed (c .before .before .before .before .before .before .before .before .before .before .before .before .before .before .before .before .before .before .before .before .before .acting2 .given .1) long o about e out moved done _ (sym (set-out objects (o .0) _ (omega (arith, c .if11 .left)))), still)
 
 loop-less-8 : tie.Need-loop-less-8 Inv-loop μ-loop
 loop-less-8 c =
     let l = c .before .before .before .before .before .before .before .before .before .before .before .before .before .before .before .before .before .before .loop in
-    let a = c .before .before .before .before .before .before .before .before .before .before .before .before .before .before .before .before .before .before .before .before .before .before .before .args in
+    let a = c .before .before .before .before .before .before .before .before .before .before .before .before .before .before .before .before .before .before .before .before .before .before .args in
     let list : List ℕ = a .list .now in
-    let ops : List Op = a .table .ops in
-    let long : length ops ≡ 192 = sym (length-map ops _) ∙ c .before .before .before .before .before .before .before .before .before .before .before .before .before .before .before .before .before .before .before .before .before .before .before .good .0 .1 .1 .1 .1 .0 .1 .0 .1 in
+    let ops : List Op = a .t1 .ops in
+    let long : length ops ≡ 192 = sym (length-map ops _) ∙ c .before .before .before .before .before .before .before .before .before .before .before .before .before .before .before .before .before .before .before .before .before .before .good .0 .1 .1 .1 .1 .0 .1 .0 .1 in
     let deed : Deed = c .before .before .before .before .before .before .before .before .before .before .before .before .before .before .before .before .acting2 .given .0 .0 in
     let m = deed .moves in
     let op = deed .op in
@@ -733,16 +723,16 @@ loop-less-8 c =
     let moved : Moved = record { acting = c .before .before .follows .result; scene = s } in
     let done : moved ≡ act m (deed .left) op s =
     (λ i. record { acting = acting i; scene = s }) ∙ sym (loud-fails op s m (deed .left) is-loud (is-fine ∙ c .if10 .left)) in
-    let less = acted-less (a .table) list (a .world) (l .threads) (l .objects) (l .turn) (l .asked) (l .acting) (l .at) (l .inv .0) deed (c .before .before .before .before .before .before .before .before .before .before .before .before .before .before .before .before .acting2 .given .1) long o about e out moved done in
+    let less = acted-less (a .t1) list (a .world) (l .threads) (l .objects) (l .turn) (l .asked) (l .acting) (l .at) (l .inv .0) deed (c .before .before .before .before .before .before .before .before .before .before .before .before .before .before .before .before .acting2 .given .1) long o about e out moved done in
     omega (arith, less)
 
 loop-again-8 : tie.Need-loop-again-8 Inv-loop μ-loop
 loop-again-8 c =
     let l = c .before .before .before .before .before .before .before .before .before .before .before .before .before .before .before .before .before .before .loop in
-    let a = c .before .before .before .before .before .before .before .before .before .before .before .before .before .before .before .before .before .before .before .before .before .before .before .args in
+    let a = c .before .before .before .before .before .before .before .before .before .before .before .before .before .before .before .before .before .before .before .before .before .before .args in
     let list : List ℕ = a .list .now in
-    let ops : List Op = a .table .ops in
-    let long : length ops ≡ 192 = sym (length-map ops _) ∙ c .before .before .before .before .before .before .before .before .before .before .before .before .before .before .before .before .before .before .before .before .before .before .before .good .0 .1 .1 .1 .1 .0 .1 .0 .1 in
+    let ops : List Op = a .t1 .ops in
+    let long : length ops ≡ 192 = sym (length-map ops _) ∙ c .before .before .before .before .before .before .before .before .before .before .before .before .before .before .before .before .before .before .before .before .before .before .good .0 .1 .1 .1 .1 .0 .1 .0 .1 in
     let deed : Deed = c .before .before .before .before .before .before .before .before .before .before .before .before .before .before .before .before .acting2 .given .0 .0 in
     let m = deed .moves in
     let op = deed .op in
@@ -779,7 +769,7 @@ loop-again-8 c =
     let moved : Moved = record { acting = c .before .before .follows .result; scene = s } in
     let done : moved ≡ act m (deed .left) op s =
     (λ i. record { acting = acting i; scene = s }) ∙ sym (loud-fails op s m (deed .left) is-loud (is-fine ∙ c .if10 .left)) in
-    (acted (a .table) list (a .world) (l .threads) (l .objects) (l .turn) (l .asked) (l .acting) (l .at) (l .inv .0) deed (c .before .before .before .before .before .before .before .before .before .before .before .before .before .before .before .before .acting2 .given .1) long o about e out moved done objects (sym (ap (set objects (o .0)) out ∙ set-getD objects (o .0) _)), six)
+    (acted (a .t1) list (a .world) (l .threads) (l .objects) (l .turn) (l .asked) (l .acting) (l .at) (l .inv .0) deed (c .before .before .before .before .before .before .before .before .before .before .before .before .before .before .before .before .acting2 .given .1) long o about e out moved done objects (sym (ap (set objects (o .0)) out ∙ set-getD objects (o .0) _)), six)
 
 enum-told-2 : tie.Need-enum-told-2 Inv-loop μ-loop
 enum-told-2 c = search needs
@@ -790,17 +780,17 @@ after-requires c κs = search needs
 loop-less-9 : tie.Need-loop-less-9 Inv-loop μ-loop
 loop-less-9 c =
     let l = c .before .before .before .loop in
-    let a = c .before .before .before .before .before .before .before .before .args in
+    let a = c .before .before .before .before .before .before .before .args in
     let list : List ℕ = a .list .now in
-    let less = turn-over-less (a .table) list (a .world) (l .threads) (l .objects) (l .turn) (l .asked) (l .acting) (l .at) (l .inv .0) (c .before .enum-told2 .given .1) _ (c .after2 .ensures) in
+    let less = turn-over-less (a .t1) list (a .world) (l .threads) (l .objects) (l .turn) (l .asked) (l .acting) (l .at) (l .inv .0) (c .before .enum-told2 .given .1) _ (c .after2 .ensures) in
     omega (arith, less)
 
 loop-again-9 : tie.Need-loop-again-9 Inv-loop μ-loop
 loop-again-9 c =
     let l = c .before .before .before .loop in
-    let a = c .before .before .before .before .before .before .before .before .args in
+    let a = c .before .before .before .before .before .before .before .args in
     let list : List ℕ = a .list .now in
-    (turn-over (a .table) list (a .world) (l .threads) (l .objects) (l .turn) (l .asked) (l .acting) (l .at) (l .inv .0) (c .before .enum-told2 .given .1) _ (c .after2 .ensures), l .inv .1)
+    (turn-over (a .t1) list (a .world) (l .threads) (l .objects) (l .turn) (l .asked) (l .acting) (l .at) (l .inv .0) (c .before .enum-told2 .given .1) _ (c .after2 .ensures), l .inv .1)
 
 enum-told-3 : tie.Need-enum-told-3 Inv-loop μ-loop
 enum-told-3 c = search needs
@@ -811,35 +801,37 @@ leak-check-requires c κs = search needs
 loop-less-10 : tie.Need-loop-less-10 Inv-loop μ-loop
 loop-less-10 c =
     let l = c .before .before .before .loop in
-    let a = c .before .before .before .before .before .before .before .before .args in
+    let a = c .before .before .before .before .before .before .before .args in
     let list : List ℕ = a .list .now in
-    let less = all-ended-less (a .table) list (a .world) (l .threads) (l .objects) (l .turn) (l .asked) (l .acting) (l .at) (l .inv .0) (c .before .enum-told3 .given .1) (c .leak-check .result) in
+    let less = all-ended-less (a .t1) list (a .world) (l .threads) (l .objects) (l .turn) (l .asked) (l .acting) (l .at) (l .inv .0) (c .before .enum-told3 .given .1) (c .leak-check .result) in
     omega (arith, less)
 
 loop-again-10 : tie.Need-loop-again-10 Inv-loop μ-loop
 loop-again-10 c =
     let l = c .before .before .before .loop in
-    let a = c .before .before .before .before .before .before .before .before .args in
+    let a = c .before .before .before .before .before .before .before .args in
     let list : List ℕ = a .list .now in
-    (all-ended (a .table) list (a .world) (l .threads) (l .objects) (l .turn) (l .asked) (l .acting) (l .at) (l .inv .0) (c .before .enum-told3 .given .1) _ (c .leak-check .ensures), l .inv .1)
+    (all-ended (a .t1) list (a .world) (l .threads) (l .objects) (l .turn) (l .asked) (l .acting) (l .at) (l .inv .0) (c .before .enum-told3 .given .1) _ (c .leak-check .ensures), l .inv .1)
 
 enum-known-acting-3 : tie.Need-enum-known-acting-3 Inv-loop μ-loop
 enum-known-acting-3 c = search needs
 
-world-of-requires-2 : tie.Need-world-of-requires-2 Inv-loop μ-loop
-world-of-requires-2 c κs = search needs
-
-verdict-requires : tie.Need-verdict-requires Inv-loop μ-loop
-verdict-requires c κs = search needs
-
 returns-3 : tie.Need-returns-3 Inv-loop μ-loop
 returns-3 c =
-    let l = c .before .before .before .before .before .loop in
-    let a = c .before .before .before .before .before .before .before .before .before .before .args in
+    let l = c .before .before .before .before .loop in
+    let a = c .before .before .before .before .before .before .before .before .args in
     let list : List ℕ = a .list .now in
-    c .verdict .ensures
-    ∙ ap (endAt (c .before .before .before .acting3 .given .0 .0) (l .at) (length list) (a .world)) (c .before .world-of2 .ensures)
-    ∙ told (a .table) list (a .world) (l .threads) (l .objects) (l .turn) (l .asked) (l .acting) (l .at) (l .inv .0) _ (c .before .before .before .acting3 .given .1)
+    surplus-left (a .t1) list (a .world) (l .threads) (l .objects) (l .turn) (l .asked) (l .acting) (l .at) (l .inv .0) _ (c .before .before .acting3 .given .1) (c .if12 .taken)
+
+came-to-requires-2 : tie.Need-came-to-requires-2 Inv-loop μ-loop
+came-to-requires-2 c κs = search needs
+
+returns-4 : tie.Need-returns-4 Inv-loop μ-loop
+returns-4 c =
+    let l = c .before .before .before .before .before .loop in
+    let a = c .before .before .before .before .before .before .before .before .before .args in
+    let list : List ℕ = a .list .now in
+    c .came-to2 .ensures ∙ verdict-reached (a .t1) list (a .world) (l .threads) (l .objects) (l .turn) (l .asked) (l .acting) (l .at) (l .inv .0) _ (c .before .before .before .acting3 .given .1) (c .before .if12 .left)
 
 pub run-spec : {M : Type 1} → statement M
 run-spec =
@@ -849,7 +841,6 @@ run-spec =
     μ-loop
     loop-holds
     enum-told
-    world-of-requires
     came-to-requires
     returns
     shared-slice-read-d
@@ -860,7 +851,6 @@ run-spec =
     array-copy-out-x
     absent-requires
     is-allowed-requires
-    came-to-requires-2
     returns-2
     add-at
     loop-less
@@ -873,7 +863,7 @@ run-spec =
     absent-requires-2
     place-of-requires
     mul-op
-    array-copy-out-op
+    element-copy-out-op
     does-requires
     loop-less-2
     loop-again-2
@@ -927,6 +917,6 @@ run-spec =
     loop-less-10
     loop-again-10
     enum-known-acting-3
-    world-of-requires-2
-    verdict-requires
-    returns-3)
+    returns-3
+    came-to-requires-2
+    returns-4)

@@ -1,0 +1,25 @@
+-- `announce::notify_asks` meets its contract.
+use mathlib.Core.Path.{sym, _∙_, ap}
+use Rattle.rules.specs.declared.notify.Call.{Call}
+use Rattle.rules.specs.Announce.{notifyAsks}
+use borrow.Author.Needs.{needs}
+use Rattle.effects.proofs.announce.notify_asks.Statement.{statement}
+use Rattle.effects.proofs.announce.notify_asks.Tie as tie
+
+enum-told : tie.Need-enum-told
+enum-told c = search needs
+
+enum-told-2 : tie.Need-enum-told-2
+enum-told-2 c = search needs
+
+might-spur-requires : tie.Need-might-spur-requires
+might-spur-requires c κs = search needs
+
+returns : tie.Need-returns
+returns c = search needs
+
+returns-2 : tie.Need-returns-2
+returns-2 c = let a = c .before .before .before .before .args in c .might-spur .ensures ∙ sym (ap (λ (k : Call). notifyAsks k (a .e)) (c .before .enum-told2 .given .1))
+
+pub notify-asks-spec : {M : Type 1} → statement M
+notify-asks-spec = tie.close (tie.spec enum-told enum-told-2 might-spur-requires returns returns-2)
