@@ -1,14 +1,27 @@
 // A turn's steps, on the threads and on the one object that each concerns.
 ghost use mathlib.Core.Path.{_≡_};
 ghost use Rattle.clocks.specs.Clock.{risen};
+ghost use Rattle.rules.specs.Effect.{effect};
 ghost use Rattle.rules.specs.Turn.{retake, dependence, operate, advance, park, wait};
 use crate::announce::action_of;
-use crate::effect::effect;
+use crate::effect::in_arc;
+use crate::effect::in_cell;
+use crate::effect::in_channel;
+use crate::effect::in_condvar;
+use crate::effect::in_mutex;
+use crate::effect::in_notify;
+use crate::effect::in_rwlock;
+use crate::parts::arc_effect;
+use crate::parts::cell_effect;
+use crate::parts::channel_effect;
+use crate::parts::condvar_effect;
+use crate::parts::mutex_effect;
+use crate::parts::notify_effect;
+use crate::parts::rwlock_effect;
 use clocks::Clock;
 use clocks::THREADS;
 use clocks::ThreadId;
 use objects::mutex::is_locked;
-use objects::mutex::release_lock;
 use objects::object::branch_disable;
 use objects::object::last_dependent_access;
 use objects::object::set_last_access;
@@ -19,11 +32,13 @@ use objects::thread::set_blocked;
 use objects::thread::set_runnable;
 use objects::thread::with_phase;
 use rules::access::Access;
+use rules::mutex;
 use rules::object::Action;
 use rules::object::Ending;
 use rules::object::Entry;
 use rules::object::ObjectId;
 use rules::object::Operation;
+use rules::table::Call;
 use rules::table::Op;
 use rules::thread::Phase;
 use rules::thread::Thread;
@@ -56,6 +71,48 @@ fn dependence(t: ThreadId, action: Action, e: Entry, x: Thread) -> Clock
     own.join(version).inc(t)
 }
 
+// As `effect`. The kinds are told apart in two places, so that each is compiled on its own: all in one function, an object is taken apart to bytes.
+fn takes_effect(
+    call: Call,
+    active: ThreadId,
+    object: ObjectId,
+    e: Entry,
+    threads: [Thread; THREADS],
+) -> Effect
+    ensures { λ r. ⌜ r ≡ effect call active object e threads ⌝ }
+{
+    match call {
+        Call::Mutex(c) => {
+            let s = e.mutex;
+            in_mutex(e, mutex_effect(c, active, object, s, threads))
+        }
+        Call::RwLock(c) => {
+            let s = e.rwlock;
+            in_rwlock(e, rwlock_effect(c, active, object, s, threads))
+        }
+        Call::Condvar(c) => {
+            let s = e.condvar;
+            in_condvar(e, condvar_effect(c, active, s, threads))
+        }
+        Call::Notify(c) => {
+            let s = e.notify;
+            in_notify(e, notify_effect(c, active, object, s, threads))
+        }
+        Call::Channel(c) => {
+            let s = e.channel;
+            in_channel(e, channel_effect(c, active, object, s, threads))
+        }
+        Call::Arc(c) => {
+            let s = e.arc;
+            in_arc(e, arc_effect(c, active, s, threads))
+        }
+        Call::Cell(c) => {
+            let s = e.cell;
+            in_cell(e, cell_effect(c, active, s, threads))
+        }
+    }
+}
+
 // An announced operation: its access is recorded, it is no longer announced, and takes effect.
 pub fn operate(t: ThreadId, op: Op, turn: u16, e: Entry, threads: [Thread; THREADS]) -> Effect
     ensures { λ r. ⌜ r ≡ operate t op turn e threads ⌝ }
@@ -71,7 +128,7 @@ pub fn operate(t: ThreadId, op: Op, turn: u16, e: Entry, threads: [Thread; THREA
     };
     let mut y = with_phase(x, Phase::Nothing);
     y.dependence = v;
-    effect(
+    takes_effect(
         call,
         t,
         object,
@@ -112,11 +169,9 @@ pub fn wait(t: ThreadId, m: ObjectId, e: Entry, threads: [Thread; THREADS]) -> E
     ensures { λ r. ⌜ r ≡ wait t m e threads ⌝ }
 {
     let s = e.mutex;
-    let r = release_lock(s, threads, t, m);
-    let state = r.state;
+    let r = in_mutex(e, mutex_effect(mutex::Call::ReleaseLock, t, m, s, threads));
+    let entry = r.entry;
     let woken = r.threads;
-    let mut entry = e;
-    entry.mutex = state;
     Effect {
         ending: Ending::Fine,
         entry: entry,

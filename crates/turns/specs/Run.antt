@@ -13,6 +13,7 @@ use Rattle.lists.specs.Judge.{Judged, notAllowed, surplus, unfinished, verdict,
 use Rattle.rules.specs.declared.object.ObjectId.{ObjectId}
 use Rattle.rules.specs.declared.object.Entry.{Entry}
 use Rattle.rules.specs.declared.thread.Thread.{Thread}
+use Rattle.rules.specs.declared.table.Op.{Op}
 use Rattle.rules.specs.declared.table.Table.{Table}
 use Rattle.rules.specs.declared.answer.Answer.the-variants.{Deadlock, More, NotAllowed, Surplus}
 use Rattle.rules.specs.declared.world.Asked.{Asked}
@@ -27,9 +28,8 @@ use Rattle.rules.specs.Judge.{Verdict, outcomeOf, step, Given, untouched}
 use Rattle.rules.specs.Sheet.{sheetOf}
 use Rattle.turns.specs.declared.step.Move.{Move}
 use Rattle.turns.specs.declared.step.Move.the-variants.{Begins, Answers, Goes, Waits}
-use Rattle.turns.specs.declared.step.Deed.{Deed}
 use Rattle.turns.specs.declared.step.Acting.{Acting}
-use Rattle.turns.specs.declared.step.Acting.the-variants.{Nobody, Moves, Does, Over, AllEnded, Done}
+use Rattle.turns.specs.declared.step.Acting.the-variants.{Nobody, Moves, Over, AllEnded, Done}
 use Rattle.turns.specs.declared.step.Scene.{Scene}
 use Rattle.turns.specs.declared.run.End.{End}
 use Rattle.turns.specs.declared.run.End.the-variants as end
@@ -45,9 +45,12 @@ placeOf counts ts (Answers t b) = placeAt counts t (threadAt ts t .position)
 placeOf counts ts (Goes t p) = placeAt counts t p
 placeOf counts ts (Waits t o) = 192
 
--- a move with its operation
-abbrev pub deedOf : Table → List Thread → Move → Deed
-deedOf table ts m = let k = placeOf (table .counts) ts m in record { moves = m; left = ltb k 192; op = getD (table .ops) k noOp }
+-- whether an operation is left for a move, and the operation
+abbrev pub leftOf : Table → List Thread → Move → Bool
+leftOf table ts m = ltb (placeOf (table .counts) ts m) 192
+
+abbrev pub opOf : Table → List Thread → Move → Op
+opOf table ts m = getD (table .ops) (placeOf (table .counts) ts m) noOp
 
 -- the world as a step about the object o sees it, and the world with what the step leaves
 abbrev pub sceneOf : World → ObjectId → Scene
@@ -79,19 +82,9 @@ movedBy table (Waits t m) w = afterTurn (settled w m (wait t m (entryIn w m) (w 
 unfoldable pub decided : Table → Acting → World → Decided
 decided table Nobody w = wants w
 decided table (Moves m) w = movedBy table m w
-decided table (Does x) w = movedBy table (x .moves) w
 decided table Over w = afterTurn w
 decided table AllEnded w = done (leakCheck 0 (w .objects)) w
 decided table (Done a) w = done a w
-
--- a deed is the one of its move
-abbrev pub Fits : Table → List Thread → Acting → Type 0
-Fits table ts Nobody = Unit {0}
-Fits table ts (Moves m) = Unit {0}
-Fits table ts (Does x) = x ≡ deedOf table ts (x .moves)
-Fits table ts Over = Unit {0}
-Fits table ts AllEnded = Unit {0}
-Fits table ts (Done a) = Unit {0}
 
 -- the judgement of what is left of the list from `at` on, after the outcome of the decision before it
 abbrev pub onwards : Table → List ℕ → ℕ → Outcome World Verdict → Judged World Verdict
@@ -105,20 +98,18 @@ rest table list at a w = let r = decided table a w in onwards table list at (out
 -- what holds from step to step: the judgement of the whole list is that of what is left
 pub record Running (table : Table) (list : List ℕ) (given : World) (threads : List Thread) (objects : List Entry) (turn : ℕ) (who : Asked) (acting : Acting) (at : ℕ) : Type 0 where
   pub judged : judge (step table) 0 given list ≡ rest table list at acting (record { threads = threads; objects = objects; turn = turn; asked = who })
-  pub fits : Fits table threads acting
   pub all : length objects ≡ 16
 
 -- how many steps may follow in a turn: a number that falls with each
 abbrev pub moveWeight : Move → ℕ
 moveWeight (Begins t) = 1000
 moveWeight (Answers t b) = 1000
-moveWeight (Goes t p) = 2 * (300 - p) + 6
-moveWeight (Waits t o) = 4
+moveWeight (Goes t p) = 300 - p + 3
+moveWeight (Waits t o) = 3
 
 abbrev pub weight : Acting → ℕ
 weight Nobody = 0
 weight (Moves m) = moveWeight m
-weight (Does x) = moveWeight (x .moves) - 1
 weight Over = 2
 weight AllEnded = 1
 weight (Done a) = 0

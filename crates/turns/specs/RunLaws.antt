@@ -46,13 +46,12 @@ use Rattle.rules.specs.Turn.{threadIn, entryIn, withThreads, withTurn, withAske
 use Rattle.rules.specs.Judge.{Verdict, outcomeOf, step}
 use Rattle.turns.specs.declared.step.Move.{Move}
 use Rattle.turns.specs.declared.step.Move.the-variants.{Begins, Answers, Goes, Waits}
-use Rattle.turns.specs.declared.step.Deed.{Deed}
 use Rattle.turns.specs.declared.step.Acting.{Acting}
-use Rattle.turns.specs.declared.step.Acting.the-variants.{Nobody, Moves, Does, Over, AllEnded, Done}
+use Rattle.turns.specs.declared.step.Acting.the-variants.{Nobody, Moves, Over, AllEnded, Done}
 use Rattle.turns.specs.declared.step.Scene.{Scene}
 use Rattle.turns.specs.declared.step.Moved.{Moved}
 use Rattle.turns.specs.Step.{firstSubject, subject, with, inTurn, goes, advanced, failing, thereafter, operation, begins, free, goesOn, spurious, answers, waits, act}
-use Rattle.turns.specs.Run.{placeAt, deedOf, sceneOf, worldOf, isAllowed, chosen, after, movedBy, decided, moveWeight, weight, Fits, onwards, rest}
+use Rattle.turns.specs.Run.{placeAt, leftOf, opOf, sceneOf, worldOf, isAllowed, chosen, after, movedBy, decided, moveWeight, weight, onwards, rest}
 
 -- the place of an operation that is left, and of none
 module _ (counts : List ℕ) (t : ThreadId) (p : ℕ) where
@@ -210,7 +209,7 @@ waits-law table w t m = refl
 
 -- one step: what it comes to is what the move comes to
 pub act-law : (table : Table) (w : World) (m : Move) → length (table .ops) ≡ 192
-    → let x = deedOf table (w .threads) m in let o = subject (w .threads) m (x .op) in movedBy table m w ≡ landed table w o (act m (x .left) (x .op) (sceneOf w o))
+    → let op = opOf table (w .threads) m in let o = subject (w .threads) m op in movedBy table m w ≡ landed table w o (act m (leftOf table (w .threads) m) op (sceneOf w o))
 unfolding movedBy act
 act-law table w (Begins t) l = begins-law table w t l (threadIn w t .phase)
 act-law table w (Answers t b) l = answers-law table w t l b
@@ -275,10 +274,6 @@ module _ (table : Table) (list : List ℕ) (at : ℕ) (w : World) where
       on (outcome.done v) = ap (λ (i : ℕ). judgeEnd v i (drop (at + 1) list)) (sym (add-one at))
       on (outcome.wants v) = refl
 
-  pub rest-deed : (m : Move) → left (Moves m) ≡ left (Does (deedOf table (w .threads) m))
-  unfolding rest decided
-  rest-deed m = refl
-
   pub rest-over : left Over ≡ left (after (w .threads))
   unfolding rest decided
   rest-over = ap settle (after-law table w)
@@ -295,15 +290,15 @@ module _ (table : Table) (list : List ℕ) (at : ℕ) (w : World) where
   unfolding rest decided outcomeOf
   rest-surplus a h = ap (λ (l : List ℕ). judgeEnd (record { answer = a; world = w }) at l) (drop-cons list at 0 h)
 
-  pub rest-act : (x : Deed) (r : Moved) → length (table .ops) ≡ 192 → x ≡ deedOf table (w .threads) (x .moves)
-      → let o = subject (w .threads) (x .moves) (x .op) in r ≡ act (x .moves) (x .left) (x .op) (sceneOf w o)
-      → left (Does x) ≡ rest table list at (r .acting) (worldOf w o (r .scene))
+  pub rest-act : (m : Move) (b : Bool) (op : Op) (r : Moved) → length (table .ops) ≡ 192 → b ≡ leftOf table (w .threads) m → op ≡ opOf table (w .threads) m
+      → let o = subject (w .threads) m op in r ≡ act m b op (sceneOf w o)
+      → left (Moves m) ≡ rest table list at (r .acting) (worldOf w o (r .scene))
   unfolding rest decided
-  rest-act x r l f e =
-      let about : Deed → ObjectId = λ y. subject (w .threads) (x .moves) (y .op) in
-      ap settle (act-law table w (x .moves) l)
-      ∙ ap (λ (y : Deed). settle (landed table w (about y) (act (x .moves) (y .left) (y .op) (sceneOf w (about y))))) (sym f)
-      ∙ ap (λ (q : Moved). settle (landed table w (about x) q)) (sym e)
+  rest-act m b op r l f g e =
+      let about : Op → ObjectId = λ p. subject (w .threads) m p in
+      ap settle (act-law table w m l)
+      ∙ (λ i. settle (landed table w (about (sym g i)) (act m (sym f i) (sym g i) (sceneOf w (about (sym g i))))))
+      ∙ ap (λ (q : Moved). settle (landed table w (about op) q)) (sym e)
 
 -- each step of a turn has fewer steps to follow
 failing-lighter : (n : ℕ) (e : Ending) (t : ThreadId) (o : ObjectId) (s : Scene) (next : Moved) → 0 < n → weight (next .acting) < n → weight (failing e t o s next .acting) < n
@@ -313,7 +308,7 @@ failing-lighter n ending.Misuse t o s next z h = z
 failing-lighter n ending.NoRoom t o s next z h = z
 failing-lighter n (ending.Race x) t o s next z h = z
 
-thereafter-lighter : (c : Call) (t : ThreadId) (p : ℕ) (s : Scene) → weight (thereafter c t p s .acting) < 999
+thereafter-lighter : (c : Call) (t : ThreadId) (p : ℕ) (s : Scene) → weight (thereafter c t p s .acting) < 1000
 unfolding thereafter
 thereafter-lighter (Mutex c) t p s = omega arith
 thereafter-lighter (RwLock c) t p s = omega arith
@@ -325,27 +320,27 @@ thereafter-lighter (Channel c) t p s = omega arith
 thereafter-lighter (Arc c) t p s = omega arith
 thereafter-lighter (Cell c) t p s = omega arith
 
-operation-lighter : (t : ThreadId) (op : Op) (s : Scene) → weight (operation t op s .acting) < 999
+operation-lighter : (t : ThreadId) (op : Op) (s : Scene) → weight (operation t op s .acting) < 1000
 unfolding operation
-operation-lighter t op s = failing-lighter 999 _ t (op .object) s _ (omega arith) (thereafter-lighter (op .call) t _ _)
+operation-lighter t op s = failing-lighter 1000 _ t (op .object) s _ (omega arith) (thereafter-lighter (op .call) t _ _)
 
-begins-lighter : (p : Phase) (t : ThreadId) (op : Op) (s : Scene) → weight (begins p t op s .acting) < 999
+begins-lighter : (p : Phase) (t : ThreadId) (op : Op) (s : Scene) → weight (begins p t op s .acting) < 1000
 unfolding begins
 begins-lighter Nothing t op s = omega arith
 begins-lighter (Announced p) t op s = operation-lighter t op s
 begins-lighter Parked t op s = omega arith
 begins-lighter (Retaking p) t op s = operation-lighter t _ s
 
-answers-lighter : (b : Bool) (t : ThreadId) (op : Op) (s : Scene) → weight (answers t b op s .acting) < 999
+answers-lighter : (b : Bool) (t : ThreadId) (op : Op) (s : Scene) → weight (answers t b op s .acting) < 1000
 unfolding answers spurious
 answers-lighter true t op s = omega arith
 answers-lighter false t op s = omega arith
 
-goes-on-lighter : (t : ThreadId) (p : ℕ) (b : Bool) (op : Op) (s : Scene) → (b ≡ true → p < 192) → weight (goesOn t p b op s .acting) < 2 * (300 - p) + 5
+goes-on-lighter : (t : ThreadId) (p : ℕ) (b : Bool) (op : Op) (s : Scene) → (b ≡ true → p < 192) → weight (goesOn t p b op s .acting) < 300 - p + 3
 unfolding goesOn free
 goes-on-lighter t p false op s h = omega arith
 goes-on-lighter t p true op s h =
-    let n : ℕ = 2 * (300 - p) + 5 in
+    let n : ℕ = 300 - p + 3 in
     split (isFree (op .call))
     (λ f. rw (goesOn, f) (failing-lighter n _ t (op .object) s _ (omega arith) (omega (arith, h refl))))
     (λ f. split (asks (op .call) (s .entry)) (λ a. rw (goesOn, f, a) (omega arith)) (λ a. rw (goesOn, f, a) (omega arith)))
@@ -356,16 +351,12 @@ left-early counts t p h =
     (λ e. let k : ltb (32 * t .0 + p) 192 ≡ true = rw (placeAt, e) at h in omega (arith, ltb-true (32 * t .0 + p) 192 k))
     (λ e. let k : ltb 192 192 ≡ true = rw (placeAt, e) at h in absurd (false≢true k))
 
-move-lighter : (table : Table) (ts : List Thread) (m : Move) (b : Bool) (op : Op) (s : Scene) → b ≡ deedOf table ts m .left → weight (act m b op s .acting) < moveWeight m - 1
+pub act-lighter : (table : Table) (ts : List Thread) (m : Move) (b : Bool) (op : Op) (s : Scene) → b ≡ leftOf table ts m → weight (act m b op s .acting) < weight (Moves m)
 unfolding act waits
-move-lighter table ts (Begins t) b op s e = begins-lighter _ t op s
-move-lighter table ts (Answers t x) b op s e = answers-lighter x t op s
-move-lighter table ts (Goes t p) b op s e =
-    let h = goes-on-lighter t p b op s (λ q. left-early (table .counts) t p (sym e ∙ q)) in let k : 2 * (300 - p) + 5 ≡ 2 * (300 - p) + 6 - 1 = omega arith in rw (← k) h
-move-lighter table ts (Waits t o) b op s e = omega arith
-
-pub act-lighter : (table : Table) (ts : List Thread) (x : Deed) (s : Scene) (r : Moved) → x ≡ deedOf table ts (x .moves) → r ≡ act (x .moves) (x .left) (x .op) s → weight (r .acting) < weight (Does x)
-act-lighter table ts x s r f e = rw e (move-lighter table ts (x .moves) (x .left) (x .op) s (ap (λ (y : Deed). y .left) f))
+act-lighter table ts (Begins t) b op s e = begins-lighter _ t op s
+act-lighter table ts (Answers t x) b op s e = answers-lighter x t op s
+act-lighter table ts (Goes t p) b op s e = goes-on-lighter t p b op s (λ q. left-early (table .counts) t p (sym e ∙ q))
+act-lighter table ts (Waits t o) b op s e = omega arith
 
 pub after-light : (ts : List Thread) → weight (after ts) < 2
 unfolding after
@@ -375,63 +366,3 @@ after-light ts =
 pub chosen-weight : (a : Asked) (d : ℕ) → weight (Moves (chosen a d)) ≡ 1000
 chosen-weight asked.Nobody d = refl
 chosen-weight (asked.Thread t) d = refl
-
-pub moves-heavier : (m : Move) → moveWeight m - 1 < moveWeight m
-moves-heavier (Begins t) = omega arith
-moves-heavier (Answers t b) = omega arith
-moves-heavier (Goes t p) = omega arith
-moves-heavier (Waits t o) = omega arith
-
--- no step makes a deed by itself
-failing-fits : (table : Table) (ts : List Thread) (e : Ending) (t : ThreadId) (o : ObjectId) (s : Scene) (next : Moved) → Fits table ts (next .acting) → Fits table ts (failing e t o s next .acting)
-unfolding failing
-failing-fits table ts ending.Fine t o s next h = h
-failing-fits table ts ending.Misuse t o s next h = tt
-failing-fits table ts ending.NoRoom t o s next h = tt
-failing-fits table ts (ending.Race x) t o s next h = tt
-
-thereafter-fits : (table : Table) (ts : List Thread) (c : Call) (t : ThreadId) (p : ℕ) (s : Scene) → Fits table ts (thereafter c t p s .acting)
-unfolding thereafter
-thereafter-fits table ts (Mutex c) t p s = tt
-thereafter-fits table ts (RwLock c) t p s = tt
-thereafter-fits table ts (Condvar (condvar-call.Wait m)) t p s = tt
-thereafter-fits table ts (Condvar condvar-call.NotifyOne) t p s = tt
-thereafter-fits table ts (Condvar condvar-call.NotifyAll) t p s = tt
-thereafter-fits table ts (Notify c) t p s = tt
-thereafter-fits table ts (Channel c) t p s = tt
-thereafter-fits table ts (Arc c) t p s = tt
-thereafter-fits table ts (Cell c) t p s = tt
-
-operation-fits : (table : Table) (ts : List Thread) (t : ThreadId) (op : Op) (s : Scene) → Fits table ts (operation t op s .acting)
-unfolding operation
-operation-fits table ts t op s = failing-fits table ts _ t (op .object) s _ (thereafter-fits table ts (op .call) t _ _)
-
-begins-fits : (table : Table) (ts : List Thread) (p : Phase) (t : ThreadId) (op : Op) (s : Scene) → Fits table ts (begins p t op s .acting)
-unfolding begins
-begins-fits table ts Nothing t op s = tt
-begins-fits table ts (Announced p) t op s = operation-fits table ts t op s
-begins-fits table ts Parked t op s = tt
-begins-fits table ts (Retaking p) t op s = operation-fits table ts t _ s
-
-answers-fits : (table : Table) (ts : List Thread) (b : Bool) (t : ThreadId) (op : Op) (s : Scene) → Fits table ts (answers t b op s .acting)
-unfolding answers spurious
-answers-fits table ts true t op s = tt
-answers-fits table ts false t op s = tt
-
-goes-on-fits : (table : Table) (ts : List Thread) (t : ThreadId) (p : ℕ) (b : Bool) (op : Op) (s : Scene) → Fits table ts (goesOn t p b op s .acting)
-unfolding goesOn free
-goes-on-fits table ts t p false op s = tt
-goes-on-fits table ts t p true op s =
-    split (isFree (op .call)) (λ f. rw (goesOn, f) (failing-fits table ts _ t (op .object) s _ tt))
-    (λ f. split (asks (op .call) (s .entry)) (λ a. rw (goesOn, f, a) tt) (λ a. rw (goesOn, f, a) tt))
-
-pub act-fits : (table : Table) (ts : List Thread) (m : Move) (b : Bool) (op : Op) (s : Scene) → Fits table ts (act m b op s .acting)
-unfolding act waits
-act-fits table ts (Begins t) b op s = begins-fits table ts _ t op s
-act-fits table ts (Answers t x) b op s = answers-fits table ts x t op s
-act-fits table ts (Goes t p) b op s = goes-on-fits table ts t p b op s
-act-fits table ts (Waits t o) b op s = tt
-
-pub after-fits : (table : Table) (ts : List Thread) → Fits table ts (after ts)
-unfolding after
-after-fits table ts = split (allEnded ts) (λ e. rw (after, e) tt) (λ e. split (anyRunnable ts) (λ r. rw (after, e, r) tt) (λ r. rw (after, e, r) tt))

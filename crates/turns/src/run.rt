@@ -2,7 +2,6 @@
 ghost use mathlib.Core.Path.{_≡_};
 ghost use Rattle.lists.specs.Judge.{judge};
 ghost use Rattle.rules.specs.Judge.{step};
-ghost use Rattle.turns.specs.declared.step.Acting.the-variants.{Does};
 ghost use Rattle.turns.specs.Quiet.{placeIn, allowedIn};
 ghost use Rattle.turns.specs.Run.{placeAt, chosen, after, ranOf};
 use crate::after::all_ended;
@@ -22,7 +21,6 @@ use crate::quiet::is_quiet;
 use crate::quiet::quietly;
 use crate::quiet::who;
 use crate::step::Acting;
-use crate::step::Deed;
 use crate::step::Move;
 use crate::step::subject;
 use clocks::THREADS;
@@ -34,7 +32,6 @@ use objects::thread::is_runnable;
 use rules::answer::Answer;
 use rules::object::Entry;
 use rules::object::OBJECTS;
-use rules::table::Op;
 use rules::table::Table;
 use rules::thread::State;
 use rules::thread::Thread;
@@ -112,16 +109,6 @@ fn chosen(asked: Asked, d: u8) -> Move
     }
 }
 
-fn does(m: Move, left: bool, op: Op) -> Acting
-    ensures { λ r. ⌜ r ≡ Does (record { moves = m; left = left; op = op }) ⌝ }
-{
-    Acting::Does(Deed {
-        moves: m,
-        left: left,
-        op: op,
-    })
-}
-
 fn came_to(
     end: End,
     threads: [Thread; THREADS],
@@ -176,30 +163,20 @@ pub fn run(table: Table, world: World, list: &[u8]) -> Ran
                 let counts = table.counts;
                 let i = who(m).0 as usize;
                 let x = if i < THREADS { threads[i] } else { absent() };
-                let k = place_of(counts, x.position, m);
-                if k < 192 {
-                    let op = table.ops[k];
-                    acting = does(m, true, op);
-                } else {
-                    acting = does(m, false, no_op());
-                }
-            }
-            Acting::Does(deed) => {
-                let moves = deed.moves;
-                let op = deed.op;
-                let call = op.call;
-                let i = who(moves).0 as usize;
-                let x = if i < THREADS { threads[i] } else { absent() };
                 let phase = x.phase;
-                let o = subject(phase, moves, op).0 as usize;
-                let e = if o < OBJECTS {
-                    objects[o]
-                } else {
-                    object::absent()
-                };
-                if is_quiet(phase, moves, deed.left, call) {
-                    let barred = is_barred(is_begun(moves), call, e);
-                    let q = quietly(moves, deed.left, op, barred, asks(call, e), x, turn, asked);
+                let k = place_of(counts, x.position, m);
+                let left = k < 192;
+                let op = if k < 192 { table.ops[k] } else { no_op() };
+                let call = op.call;
+                let o = subject(phase, m, op).0 as usize;
+                if is_quiet(phase, m, left, call) {
+                    let e = if o < OBJECTS {
+                        objects[o]
+                    } else {
+                        object::absent()
+                    };
+                    let barred = is_barred(is_begun(m), call, e);
+                    let q = quietly(m, left, op, barred, asks(call, e), x, turn, asked);
                     let y = q.thread;
                     acting = q.acting;
                     turn = q.turn;
@@ -208,18 +185,23 @@ pub fn run(table: Table, world: World, list: &[u8]) -> Ran
                         threads[i] = y;
                     }
                 } else {
-                    let work = op_in(phase, moves, op);
-                    let n = turn_in(moves, turn);
-                    let r = loudly(moves, work, n, e, threads);
+                    let e = if o < OBJECTS {
+                        objects[o]
+                    } else {
+                        object::absent()
+                    };
+                    let work = op_in(phase, m, op);
+                    let n = turn_in(m, turn);
+                    let r = loudly(m, work, n, e, threads);
                     let ending = r.ending;
-                    acting = follows(ending, moves, work, x.position);
+                    acting = follows(ending, m, work, x.position);
                     if is_fine(ending) {
                         let entry = r.entry;
                         let after = r.threads;
                         let work_call = work.call;
-                        threads = settled(moves, work_call, after);
+                        threads = settled(m, work_call, after);
                         turn = n;
-                        asked = asked_in(moves, asked);
+                        asked = asked_in(m, asked);
                         if o < OBJECTS {
                             objects[o] = entry;
                         }

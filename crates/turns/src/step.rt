@@ -27,18 +27,10 @@ pub enum Move {
     Waits(ThreadId, ObjectId),
 }
 
-// A move with its operation, if one is left.
-pub struct Deed {
-    pub moves: Move,
-    pub left: bool,
-    pub op: Op,
-}
-
 pub enum Acting {
     // The next decision is wanted.
     Nobody,
     Moves(Move),
-    Does(Deed),
     // The turn is over.
     Over,
     AllEnded,

@@ -32,8 +32,8 @@ set-last-access-requires c κs = search needs
 put-requires : tie.Need-put-requires
 put-requires c κs = search needs
 
-effect-requires : tie.Need-effect-requires
-effect-requires c κs = search needs
+takes-effect-requires : tie.Need-takes-effect-requires
+takes-effect-requires c κs = search needs
 
 returns : tie.Need-returns
 unfolding operate
@@ -45,7 +45,7 @@ returns c =
     let a = k .before .before .args in
     let acc : Clock → Access = λ v. record { «path_id» = a .turn; version = v } in
     let run : Action → Clock → Thread → Effect = λ x v y. effect (a .op .call) (a .t) (a .op .object) (setLastAccess x (acc v) (a .e)) (putThread (a .threads) (a .t) (withDependence y v)) in
-    c .effect .ensures
+    c .takes-effect .ensures
     ∙ (λ i. effect (a .op .call) (a .t) (a .op .object) (c .before .before .set-last-access .ensures i) (c .before .put .ensures i))
     ∙ ap (run (k .action-of .result) (d .dependence .result)) (w .with-phase .ensures)
     ∙ ap (λ (v : Clock). run (k .action-of .result) v (withPhase (g .get .result) Nothing)) (d .dependence .ensures)
@@ -61,5 +61,5 @@ operate-spec =
     with-phase-requires
     set-last-access-requires
     put-requires
-    effect-requires
+    takes-effect-requires
     returns)

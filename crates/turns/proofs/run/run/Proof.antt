@@ -10,10 +10,8 @@ use Rattle.rules.specs.declared.object.ObjectId.{ObjectId}
 use Rattle.rules.specs.declared.object.Entry.{Entry}
 use Rattle.rules.specs.declared.table.Op.{Op}
 use Rattle.rules.specs.Object.{entryAt}
-use Rattle.turns.specs.declared.step.Acting.{Acting}
-use Rattle.turns.specs.Run.{moveWeight}
 use lib.ListN.{length-map}
-use Rattle.turns.specs.Running.{begun, ran-out, not-allowed, surplus-left, verdict-reached, decision, decision-less, deed, deed-less, acted, acted-less, turn-over, turn-over-less, all-ended, all-ended-less, taken-there, taken-none, deed-there, deed-none}
+use Rattle.turns.specs.Running.{begun, ran-out, not-allowed, surplus-left, verdict-reached, decision, decision-less, acted, acted-less, turn-over, turn-over-less, all-ended, all-ended-less, taken-there, taken-none, op-there, op-none}
 use Prim.Native.Nat.{_+_, _-_, _*_}
 use lib.ListN.{length}
 use mathlib.Core.Bool.{Bool}
@@ -24,14 +22,14 @@ use Rattle.clocks.specs.declared.thread.ThreadId.{ThreadId}
 use Rattle.rules.specs.declared.thread.Thread.{Thread}
 use Rattle.rules.specs.Ground.{threadAt}
 use Rattle.rules.specs.Announce.{asks}
-use Rattle.turns.specs.declared.step.Deed.{Deed}
 use Rattle.turns.specs.declared.step.Scene.{Scene}
 use Rattle.turns.specs.declared.quiet.Quiet.{Quiet}
 use Rattle.rules.specs.declared.world.Effect.{Effect}
 use Rattle.turns.specs.declared.step.Moved.{Moved}
 use Rattle.turns.specs.Step.{subject, act}
 use Rattle.turns.specs.Loud.{opIn, turnIn, loudly, settledBy, isFine, follows, work, doneBy, loud-fine, loud-fails}
-use Rattle.turns.specs.Run.{placeOf, chosen}
+use lib.Dec.{ltb}
+use Rattle.turns.specs.Run.{placeOf, leftOf, opOf, chosen}
 use Rattle.turns.specs.Quiet.{who, isBegun, subjectIn, subject-in, placeIn, place-in, allowedIn, allowed-in, isQuiet, isBarred, quietly, stayed, quiet-law}
 use borrow.Author.Needs.{needs}
 use Rattle.turns.specs.Run.{Running, weight}
@@ -166,96 +164,8 @@ mul-op c = search needs
 element-copy-out-op : tie.Need-element-copy-out-op Inv-loop μ-loop
 element-copy-out-op c = search needs
 
-does-requires : tie.Need-does-requires Inv-loop μ-loop
-does-requires c κs = search needs
-
-loop-less-2 : tie.Need-loop-less-2 Inv-loop μ-loop
-loop-less-2 c =
-    let l = c .before .before .before .before .before .before .before .before .before .before .before .loop in
-    let a = c .before .before .before .before .before .before .before .before .before .before .before .before .before .before .before .args in
-    let list : List ℕ = a .list .now in
-    let m = c .before .before .before .before .before .before .before .before .before .acting .given .0 .0 in
-    let same : weight (c .does .result) ≡ moveWeight m - 1 = ap weight (c .does .ensures) in
-    let less = deed-less (a .t1) list (a .world) (l .threads) (l .objects) (l .turn) (l .asked) (l .acting) (l .at) (l .inv .0) m (c .before .before .before .before .before .before .before .before .before .acting .given .1) in
-    omega (arith, same, less)
-
-loop-again-2 : tie.Need-loop-again-2 Inv-loop μ-loop
-loop-again-2 c =
-    let l = c .before .before .before .before .before .before .before .before .before .before .before .loop in
-    let a = c .before .before .before .before .before .before .before .before .before .before .before .before .before .before .before .args in
-    let list : List ℕ = a .list .now in
-    let m = c .before .before .before .before .before .before .before .before .before .acting .given .0 .0 in
-    let ops : List Op = a .t1 .ops in
-    let long : length ops ≡ 192 = sym (length-map ops _) ∙ c .before .before .before .before .before .before .before .before .before .before .before .before .before .before .before .good .0 .1 .1 .1 .1 .0 .1 .0 .1 in
-    let ts : List Thread = l .threads in
-    let six : length ts ≡ 6 = l .inv .1 in
-    let t : ThreadId = c .before .before .before .before .before .before .who2 .result in
-    let x : Thread = c .before .before .before .before .if4 .x in
-    let found : x ≡ threadAt ts t =
-    elim (c .before .before .before .before .if4 .came) [
-      | inl w ↦ w .2 ∙ getD-within ts (t .0) _ _ (omega (arith, w .0 .taken, six))
-      | inr w ↦ w .2 ∙ w .1 .ensures ∙ sym (List·getD-eq-default ts _ (omega (arith, w .0 .left, six)))
-    ] in
-    let seen : x ≡ threadAt ts (who (m)) = found ∙ ap (threadAt ts) (c .before .before .before .before .before .before .who2 .ensures) in
-    let at : c .before .before .before .place-of .result ≡ placeOf (a .t1 .counts) ts m = c .before .before .before .place-of .ensures ∙ ap (λ (y : Thread). placeIn (a .t1 .counts) (y .position) m) seen ∙ sym (place-in (a .t1 .counts) ts m) in
-    let made = deed-there (a .t1) ts m _ at long _ (c .before .before .if5 .taken) in
-    (subst (λ (y : Acting). Running (a .t1) list (a .world) ts (l .objects) (l .turn) (l .asked) y (l .at)) (sym (c .does .ensures)) (deed (a .t1) list (a .world) (l .threads) (l .objects) (l .turn) (l .asked) (l .acting) (l .at) (l .inv .0) m (c .before .before .before .before .before .before .before .before .before .acting .given .1) _ made), six)
-
 no-op-requires : tie.Need-no-op-requires Inv-loop μ-loop
 no-op-requires c κs = search needs
-
-does-requires-2 : tie.Need-does-requires-2 Inv-loop μ-loop
-does-requires-2 c κs = search needs
-
-loop-less-3 : tie.Need-loop-less-3 Inv-loop μ-loop
-loop-less-3 c =
-    let l = c .before .before .before .before .before .before .before .before .before .before .before .loop in
-    let a = c .before .before .before .before .before .before .before .before .before .before .before .before .before .before .before .args in
-    let list : List ℕ = a .list .now in
-    let m = c .before .before .before .before .before .before .before .before .before .acting .given .0 .0 in
-    let same : weight (c .does2 .result) ≡ moveWeight m - 1 = ap weight (c .does2 .ensures) in
-    let less = deed-less (a .t1) list (a .world) (l .threads) (l .objects) (l .turn) (l .asked) (l .acting) (l .at) (l .inv .0) m (c .before .before .before .before .before .before .before .before .before .acting .given .1) in
-    omega (arith, same, less)
-
-loop-again-3 : tie.Need-loop-again-3 Inv-loop μ-loop
-loop-again-3 c =
-    let l = c .before .before .before .before .before .before .before .before .before .before .before .loop in
-    let a = c .before .before .before .before .before .before .before .before .before .before .before .before .before .before .before .args in
-    let list : List ℕ = a .list .now in
-    let m = c .before .before .before .before .before .before .before .before .before .acting .given .0 .0 in
-    let ops : List Op = a .t1 .ops in
-    let long : length ops ≡ 192 = sym (length-map ops _) ∙ c .before .before .before .before .before .before .before .before .before .before .before .before .before .before .before .good .0 .1 .1 .1 .1 .0 .1 .0 .1 in
-    let ts : List Thread = l .threads in
-    let six : length ts ≡ 6 = l .inv .1 in
-    let t : ThreadId = c .before .before .before .before .before .before .who2 .result in
-    let x : Thread = c .before .before .before .before .if4 .x in
-    let found : x ≡ threadAt ts t =
-    elim (c .before .before .before .before .if4 .came) [
-      | inl w ↦ w .2 ∙ getD-within ts (t .0) _ _ (omega (arith, w .0 .taken, six))
-      | inr w ↦ w .2 ∙ w .1 .ensures ∙ sym (List·getD-eq-default ts _ (omega (arith, w .0 .left, six)))
-    ] in
-    let seen : x ≡ threadAt ts (who (m)) = found ∙ ap (threadAt ts) (c .before .before .before .before .before .before .who2 .ensures) in
-    let at : c .before .before .before .place-of .result ≡ placeOf (a .t1 .counts) ts m = c .before .before .before .place-of .ensures ∙ ap (λ (y : Thread). placeIn (a .t1 .counts) (y .position) m) seen ∙ sym (place-in (a .t1 .counts) ts m) in
-    let made = deed-none (a .t1) ts m _ at long _ (c .before .no-op .ensures) (c .before .before .if5 .left) in
-    (subst (λ (y : Acting). Running (a .t1) list (a .world) ts (l .objects) (l .turn) (l .asked) y (l .at)) (sym (c .does2 .ensures)) (deed (a .t1) list (a .world) (l .threads) (l .objects) (l .turn) (l .asked) (l .acting) (l .at) (l .inv .0) m (c .before .before .before .before .before .before .before .before .before .acting .given .1) _ made), six)
-
-enum-known-acting-2 : tie.Need-enum-known-acting-2 Inv-loop μ-loop
-enum-known-acting-2 c = search needs
-
-who-requires-3 : tie.Need-who-requires-3 Inv-loop μ-loop
-who-requires-3 c κs = search needs
-
-cast-i-3 : tie.Need-cast-i-3 Inv-loop μ-loop
-cast-i-3 c = search needs
-
-mul-x-3 : tie.Need-mul-x-3 Inv-loop μ-loop
-mul-x-3 c = search needs
-
-array-copy-out-x-3 : tie.Need-array-copy-out-x-3 Inv-loop μ-loop
-array-copy-out-x-3 c = search needs
-
-absent-requires-3 : tie.Need-absent-requires-3 Inv-loop μ-loop
-absent-requires-3 c κs = search needs
 
 subject-requires : tie.Need-subject-requires Inv-loop μ-loop
 subject-requires c κs = search needs
@@ -263,17 +173,17 @@ subject-requires c κs = search needs
 cast-o : tie.Need-cast-o Inv-loop μ-loop
 cast-o c = search needs
 
+is-quiet-requires : tie.Need-is-quiet-requires Inv-loop μ-loop
+is-quiet-requires c κs = search needs
+
 mul-e : tie.Need-mul-e Inv-loop μ-loop
 mul-e c = search needs
 
 array-copy-out-e : tie.Need-array-copy-out-e Inv-loop μ-loop
 array-copy-out-e c = search needs
 
-absent-requires-4 : tie.Need-absent-requires-4 Inv-loop μ-loop
-absent-requires-4 c κs = search needs
-
-is-quiet-requires : tie.Need-is-quiet-requires Inv-loop μ-loop
-is-quiet-requires c κs = search needs
+absent-requires-3 : tie.Need-absent-requires-3 Inv-loop μ-loop
+absent-requires-3 c κs = search needs
 
 is-begun-requires : tie.Need-is-begun-requires Inv-loop μ-loop
 is-begun-requires c κs = search needs
@@ -293,165 +203,206 @@ mul-threads c = search needs
 array-set-from-threads : tie.Need-array-set-from-threads Inv-loop μ-loop
 array-set-from-threads c = search needs
 
-loop-less-4 : tie.Need-loop-less-4 Inv-loop μ-loop
-loop-less-4 c =
-    let l = c .before .before .before .before .before .before .before .before .before .before .before .before .before .before .before .before .before .before .loop in
-    let a = c .before .before .before .before .before .before .before .before .before .before .before .before .before .before .before .before .before .before .before .before .before .before .args in
+loop-less-2 : tie.Need-loop-less-2 Inv-loop μ-loop
+loop-less-2 c =
+    let l = c .before .before .before .before .before .before .before .before .before .before .before .before .before .before .before .before .before .before .before .before .loop in
+    let a = c .before .before .before .before .before .before .before .before .before .before .before .before .before .before .before .before .before .before .before .before .before .before .before .before .args in
     let list : List ℕ = a .list .now in
+    let m = c .before .before .before .before .before .before .before .before .before .before .before .before .before .before .before .before .before .before .acting .given .0 .0 in
     let ops : List Op = a .t1 .ops in
-    let long : length ops ≡ 192 = sym (length-map ops _) ∙ c .before .before .before .before .before .before .before .before .before .before .before .before .before .before .before .before .before .before .before .before .before .before .good .0 .1 .1 .1 .1 .0 .1 .0 .1 in
-    let deed : Deed = c .before .before .before .before .before .before .before .before .before .before .before .before .before .before .before .before .acting2 .given .0 .0 in
-    let m = deed .moves in
-    let op = deed .op in
+    let long : length ops ≡ 192 = sym (length-map ops _) ∙ c .before .before .before .before .before .before .before .before .before .before .before .before .before .before .before .before .before .before .before .before .before .before .before .before .good .0 .1 .1 .1 .1 .0 .1 .0 .1 in
     let ts : List Thread = l .threads in
     let six : length ts ≡ 6 = l .inv .1 in
-    let t : ThreadId = c .before .before .before .before .before .before .before .before .before .before .before .before .before .who3 .result in
-    let x : Thread = c .before .before .before .before .before .before .before .before .before .before .before .if6 .x in
+    let t : ThreadId = c .before .before .before .before .before .before .before .before .before .before .before .before .before .before .before .who2 .result in
+    let x : Thread = c .before .before .before .before .before .before .before .before .before .before .before .before .before .if4 .x in
     let found : x ≡ threadAt ts t =
-    elim (c .before .before .before .before .before .before .before .before .before .before .before .if6 .came) [
+    elim (c .before .before .before .before .before .before .before .before .before .before .before .before .before .if4 .came) [
       | inl w ↦ w .2 ∙ getD-within ts (t .0) _ _ (omega (arith, w .0 .taken, six))
       | inr w ↦ w .2 ∙ w .1 .ensures ∙ sym (List·getD-eq-default ts _ (omega (arith, w .0 .left, six)))
     ] in
-    let seen : x ≡ threadAt ts (who (m)) = found ∙ ap (threadAt ts) (c .before .before .before .before .before .before .before .before .before .before .before .before .before .who3 .ensures) in
+    let seen : x ≡ threadAt ts (who m) = found ∙ ap (threadAt ts) (c .before .before .before .before .before .before .before .before .before .before .before .before .before .before .before .who2 .ensures) in
+    let k : ℕ = c .before .before .before .before .before .before .before .before .before .before .before .before .place-of .result in
+    let at : k ≡ placeOf (a .t1 .counts) ts m = c .before .before .before .before .before .before .before .before .before .before .before .before .place-of .ensures ∙ ap (λ (y : Thread). placeIn (a .t1 .counts) (y .position) m) seen ∙ sym (place-in (a .t1 .counts) ts m) in
+    let left : Bool = ltb k 192 in
+    let is-left : left ≡ leftOf (a .t1) ts m = ap (λ (j : ℕ). ltb j 192) at in
+    let op : Op = c .before .before .before .before .before .before .before .before .before .before .before .if5 .op in
+    let is-op : op ≡ opOf (a .t1) ts m =
+    elim (c .before .before .before .before .before .before .before .before .before .before .before .if5 .came) [
+      | inl w ↦ w .2 ∙ op-there (a .t1) ts m k at long _ (w .0 .taken)
+      | inr w ↦ w .2 ∙ w .1 .ensures ∙ op-none (a .t1) ts m k at long (w .0 .left)
+    ] in
     let objects : List Entry = l .objects in
     let all : length objects ≡ 16 = l .inv .0 .all in
     let o : ObjectId = c .before .before .before .before .before .before .before .before .before .before .subject .result in
     let about : o ≡ subject ts m op = c .before .before .before .before .before .before .before .before .before .before .subject .ensures ∙ ap (λ (y : Thread). subjectIn (y .phase) m op) seen ∙ sym (subject-in ts m op) in
-    let e : Entry = c .before .before .before .before .before .before .before .before .if7 .e in
+    let e : Entry = c .before .before .before .before .before .before .if7 .e in
     let out : e ≡ entryAt objects o =
-    elim (c .before .before .before .before .before .before .before .before .if7 .came) [
+    elim (c .before .before .before .before .before .before .if7 .came) [
       | inl w ↦ w .2 ∙ taken-there objects (o .0) _ (omega (arith, w .0 .taken))
       | inr w ↦ w .2 ∙ w .1 .ensures ∙ taken-none objects (o .0) (omega (arith, w .0 .left))
     ] in
     let s : Scene = record { entry = e; threads = ts; turn = l .turn; asked = l .asked } in
-    let is-quiet = ap (λ (y : Thread). isQuiet (y .phase) m (deed .left) (op .call)) (sym seen) ∙ sym (c .before .before .before .before .before .before .before .is-quiet .ensures) ∙ c .before .before .before .before .before .before .if8 .taken in
+    let is-quiet = ap (λ (y : Thread). isQuiet (y .phase) m left (op .call)) (sym seen) ∙ sym (c .before .before .before .before .before .before .before .before .is-quiet .ensures) ∙ c .before .before .before .before .before .before .before .if6 .taken in
     let barred = c .before .before .before .before .is-barred .ensures ∙ ap (λ (y : Bool). isBarred y (op .call) e) (c .before .before .before .before .before .is-begun .ensures) in
     let q : Quiet = c .before .before .quietly .result in
-    let made : q ≡ quietly m (deed .left) op (isBarred (isBegun m) (op .call) e) (asks (op .call) e) (threadAt ts (who m)) (l .turn) (l .asked) =
-    c .before .before .quietly .ensures ∙ (λ i. quietly m (deed .left) op (barred i) (c .before .before .before .asks .ensures i) (seen i) (l .turn) (l .asked)) in
-    let done = ap (λ (u : ThreadId). stayed s u q) (c .before .before .before .before .before .before .before .before .before .before .before .before .before .who3 .ensures) ∙ ap (stayed s (who m)) made ∙ sym (quiet-law op s m (deed .left) is-quiet) in
-    let less = acted-less (a .t1) list (a .world) (l .threads) (l .objects) (l .turn) (l .asked) (l .acting) (l .at) (l .inv .0) deed (c .before .before .before .before .before .before .before .before .before .before .before .before .before .before .before .before .acting2 .given .1) long o about e out (stayed s t q) done in
+    let made : q ≡ quietly m left op (isBarred (isBegun m) (op .call) e) (asks (op .call) e) (threadAt ts (who m)) (l .turn) (l .asked) =
+    c .before .before .quietly .ensures ∙ (λ i. quietly m left op (barred i) (c .before .before .before .asks .ensures i) (seen i) (l .turn) (l .asked)) in
+    let done = ap (λ (u : ThreadId). stayed s u q) (c .before .before .before .before .before .before .before .before .before .before .before .before .before .before .before .who2 .ensures) ∙ ap (stayed s (who m)) made ∙ sym (quiet-law op s m left is-quiet) in
+    let less = acted-less (a .t1) list (a .world) (l .threads) (l .objects) (l .turn) (l .asked) (l .acting) (l .at) (l .inv .0) m (c .before .before .before .before .before .before .before .before .before .before .before .before .before .before .before .before .before .before .acting .given .1) long left is-left op is-op o about e out (stayed s t q) done in
     omega (arith, less)
 
-loop-again-4 : tie.Need-loop-again-4 Inv-loop μ-loop
-loop-again-4 c =
-    let l = c .before .before .before .before .before .before .before .before .before .before .before .before .before .before .before .before .before .before .loop in
-    let a = c .before .before .before .before .before .before .before .before .before .before .before .before .before .before .before .before .before .before .before .before .before .before .args in
+loop-again-2 : tie.Need-loop-again-2 Inv-loop μ-loop
+loop-again-2 c =
+    let l = c .before .before .before .before .before .before .before .before .before .before .before .before .before .before .before .before .before .before .before .before .loop in
+    let a = c .before .before .before .before .before .before .before .before .before .before .before .before .before .before .before .before .before .before .before .before .before .before .before .before .args in
     let list : List ℕ = a .list .now in
+    let m = c .before .before .before .before .before .before .before .before .before .before .before .before .before .before .before .before .before .before .acting .given .0 .0 in
     let ops : List Op = a .t1 .ops in
-    let long : length ops ≡ 192 = sym (length-map ops _) ∙ c .before .before .before .before .before .before .before .before .before .before .before .before .before .before .before .before .before .before .before .before .before .before .good .0 .1 .1 .1 .1 .0 .1 .0 .1 in
-    let deed : Deed = c .before .before .before .before .before .before .before .before .before .before .before .before .before .before .before .before .acting2 .given .0 .0 in
-    let m = deed .moves in
-    let op = deed .op in
+    let long : length ops ≡ 192 = sym (length-map ops _) ∙ c .before .before .before .before .before .before .before .before .before .before .before .before .before .before .before .before .before .before .before .before .before .before .before .before .good .0 .1 .1 .1 .1 .0 .1 .0 .1 in
     let ts : List Thread = l .threads in
     let six : length ts ≡ 6 = l .inv .1 in
-    let t : ThreadId = c .before .before .before .before .before .before .before .before .before .before .before .before .before .who3 .result in
-    let x : Thread = c .before .before .before .before .before .before .before .before .before .before .before .if6 .x in
+    let t : ThreadId = c .before .before .before .before .before .before .before .before .before .before .before .before .before .before .before .who2 .result in
+    let x : Thread = c .before .before .before .before .before .before .before .before .before .before .before .before .before .if4 .x in
     let found : x ≡ threadAt ts t =
-    elim (c .before .before .before .before .before .before .before .before .before .before .before .if6 .came) [
+    elim (c .before .before .before .before .before .before .before .before .before .before .before .before .before .if4 .came) [
       | inl w ↦ w .2 ∙ getD-within ts (t .0) _ _ (omega (arith, w .0 .taken, six))
       | inr w ↦ w .2 ∙ w .1 .ensures ∙ sym (List·getD-eq-default ts _ (omega (arith, w .0 .left, six)))
     ] in
-    let seen : x ≡ threadAt ts (who (m)) = found ∙ ap (threadAt ts) (c .before .before .before .before .before .before .before .before .before .before .before .before .before .who3 .ensures) in
+    let seen : x ≡ threadAt ts (who m) = found ∙ ap (threadAt ts) (c .before .before .before .before .before .before .before .before .before .before .before .before .before .before .before .who2 .ensures) in
+    let k : ℕ = c .before .before .before .before .before .before .before .before .before .before .before .before .place-of .result in
+    let at : k ≡ placeOf (a .t1 .counts) ts m = c .before .before .before .before .before .before .before .before .before .before .before .before .place-of .ensures ∙ ap (λ (y : Thread). placeIn (a .t1 .counts) (y .position) m) seen ∙ sym (place-in (a .t1 .counts) ts m) in
+    let left : Bool = ltb k 192 in
+    let is-left : left ≡ leftOf (a .t1) ts m = ap (λ (j : ℕ). ltb j 192) at in
+    let op : Op = c .before .before .before .before .before .before .before .before .before .before .before .if5 .op in
+    let is-op : op ≡ opOf (a .t1) ts m =
+    elim (c .before .before .before .before .before .before .before .before .before .before .before .if5 .came) [
+      | inl w ↦ w .2 ∙ op-there (a .t1) ts m k at long _ (w .0 .taken)
+      | inr w ↦ w .2 ∙ w .1 .ensures ∙ op-none (a .t1) ts m k at long (w .0 .left)
+    ] in
     let objects : List Entry = l .objects in
     let all : length objects ≡ 16 = l .inv .0 .all in
     let o : ObjectId = c .before .before .before .before .before .before .before .before .before .before .subject .result in
     let about : o ≡ subject ts m op = c .before .before .before .before .before .before .before .before .before .before .subject .ensures ∙ ap (λ (y : Thread). subjectIn (y .phase) m op) seen ∙ sym (subject-in ts m op) in
-    let e : Entry = c .before .before .before .before .before .before .before .before .if7 .e in
+    let e : Entry = c .before .before .before .before .before .before .if7 .e in
     let out : e ≡ entryAt objects o =
-    elim (c .before .before .before .before .before .before .before .before .if7 .came) [
+    elim (c .before .before .before .before .before .before .if7 .came) [
       | inl w ↦ w .2 ∙ taken-there objects (o .0) _ (omega (arith, w .0 .taken))
       | inr w ↦ w .2 ∙ w .1 .ensures ∙ taken-none objects (o .0) (omega (arith, w .0 .left))
     ] in
     let s : Scene = record { entry = e; threads = ts; turn = l .turn; asked = l .asked } in
-    let is-quiet = ap (λ (y : Thread). isQuiet (y .phase) m (deed .left) (op .call)) (sym seen) ∙ sym (c .before .before .before .before .before .before .before .is-quiet .ensures) ∙ c .before .before .before .before .before .before .if8 .taken in
+    let is-quiet = ap (λ (y : Thread). isQuiet (y .phase) m left (op .call)) (sym seen) ∙ sym (c .before .before .before .before .before .before .before .before .is-quiet .ensures) ∙ c .before .before .before .before .before .before .before .if6 .taken in
     let barred = c .before .before .before .before .is-barred .ensures ∙ ap (λ (y : Bool). isBarred y (op .call) e) (c .before .before .before .before .before .is-begun .ensures) in
     let q : Quiet = c .before .before .quietly .result in
-    let made : q ≡ quietly m (deed .left) op (isBarred (isBegun m) (op .call) e) (asks (op .call) e) (threadAt ts (who m)) (l .turn) (l .asked) =
-    c .before .before .quietly .ensures ∙ (λ i. quietly m (deed .left) op (barred i) (c .before .before .before .asks .ensures i) (seen i) (l .turn) (l .asked)) in
-    let done = ap (λ (u : ThreadId). stayed s u q) (c .before .before .before .before .before .before .before .before .before .before .before .before .before .who3 .ensures) ∙ ap (stayed s (who m)) made ∙ sym (quiet-law op s m (deed .left) is-quiet) in
-    let next = acted (a .t1) list (a .world) (l .threads) (l .objects) (l .turn) (l .asked) (l .acting) (l .at) (l .inv .0) deed (c .before .before .before .before .before .before .before .before .before .before .before .before .before .before .before .before .acting2 .given .1) long o about e out (stayed s t q) done objects (sym (ap (set objects (o .0)) out ∙ set-getD objects (o .0) _)) in
+    let made : q ≡ quietly m left op (isBarred (isBegun m) (op .call) e) (asks (op .call) e) (threadAt ts (who m)) (l .turn) (l .asked) =
+    c .before .before .quietly .ensures ∙ (λ i. quietly m left op (barred i) (c .before .before .before .asks .ensures i) (seen i) (l .turn) (l .asked)) in
+    let done = ap (λ (u : ThreadId). stayed s u q) (c .before .before .before .before .before .before .before .before .before .before .before .before .before .before .before .who2 .ensures) ∙ ap (stayed s (who m)) made ∙ sym (quiet-law op s m left is-quiet) in
+    let next = acted (a .t1) list (a .world) (l .threads) (l .objects) (l .turn) (l .asked) (l .acting) (l .at) (l .inv .0) m (c .before .before .before .before .before .before .before .before .before .before .before .before .before .before .before .before .before .before .acting .given .1) long left is-left op is-op o about e out (stayed s t q) done objects (sym (ap (set objects (o .0)) out ∙ set-getD objects (o .0) _)) in
     (next, length-set ts (t .0) (q .thread) ∙ six)
 
-loop-less-5 : tie.Need-loop-less-5 Inv-loop μ-loop
-loop-less-5 c =
-    let l = c .before .before .before .before .before .before .before .before .before .before .before .before .before .before .before .before .before .before .loop in
-    let a = c .before .before .before .before .before .before .before .before .before .before .before .before .before .before .before .before .before .before .before .before .before .before .args in
+loop-less-3 : tie.Need-loop-less-3 Inv-loop μ-loop
+loop-less-3 c =
+    let l = c .before .before .before .before .before .before .before .before .before .before .before .before .before .before .before .before .before .before .before .before .loop in
+    let a = c .before .before .before .before .before .before .before .before .before .before .before .before .before .before .before .before .before .before .before .before .before .before .before .before .args in
     let list : List ℕ = a .list .now in
+    let m = c .before .before .before .before .before .before .before .before .before .before .before .before .before .before .before .before .before .before .acting .given .0 .0 in
     let ops : List Op = a .t1 .ops in
-    let long : length ops ≡ 192 = sym (length-map ops _) ∙ c .before .before .before .before .before .before .before .before .before .before .before .before .before .before .before .before .before .before .before .before .before .before .good .0 .1 .1 .1 .1 .0 .1 .0 .1 in
-    let deed : Deed = c .before .before .before .before .before .before .before .before .before .before .before .before .before .before .before .before .acting2 .given .0 .0 in
-    let m = deed .moves in
-    let op = deed .op in
+    let long : length ops ≡ 192 = sym (length-map ops _) ∙ c .before .before .before .before .before .before .before .before .before .before .before .before .before .before .before .before .before .before .before .before .before .before .before .before .good .0 .1 .1 .1 .1 .0 .1 .0 .1 in
     let ts : List Thread = l .threads in
     let six : length ts ≡ 6 = l .inv .1 in
-    let t : ThreadId = c .before .before .before .before .before .before .before .before .before .before .before .before .before .who3 .result in
-    let x : Thread = c .before .before .before .before .before .before .before .before .before .before .before .if6 .x in
+    let t : ThreadId = c .before .before .before .before .before .before .before .before .before .before .before .before .before .before .before .who2 .result in
+    let x : Thread = c .before .before .before .before .before .before .before .before .before .before .before .before .before .if4 .x in
     let found : x ≡ threadAt ts t =
-    elim (c .before .before .before .before .before .before .before .before .before .before .before .if6 .came) [
+    elim (c .before .before .before .before .before .before .before .before .before .before .before .before .before .if4 .came) [
       | inl w ↦ w .2 ∙ getD-within ts (t .0) _ _ (omega (arith, w .0 .taken, six))
       | inr w ↦ w .2 ∙ w .1 .ensures ∙ sym (List·getD-eq-default ts _ (omega (arith, w .0 .left, six)))
     ] in
-    let seen : x ≡ threadAt ts (who (m)) = found ∙ ap (threadAt ts) (c .before .before .before .before .before .before .before .before .before .before .before .before .before .who3 .ensures) in
+    let seen : x ≡ threadAt ts (who m) = found ∙ ap (threadAt ts) (c .before .before .before .before .before .before .before .before .before .before .before .before .before .before .before .who2 .ensures) in
+    let k : ℕ = c .before .before .before .before .before .before .before .before .before .before .before .before .place-of .result in
+    let at : k ≡ placeOf (a .t1 .counts) ts m = c .before .before .before .before .before .before .before .before .before .before .before .before .place-of .ensures ∙ ap (λ (y : Thread). placeIn (a .t1 .counts) (y .position) m) seen ∙ sym (place-in (a .t1 .counts) ts m) in
+    let left : Bool = ltb k 192 in
+    let is-left : left ≡ leftOf (a .t1) ts m = ap (λ (j : ℕ). ltb j 192) at in
+    let op : Op = c .before .before .before .before .before .before .before .before .before .before .before .if5 .op in
+    let is-op : op ≡ opOf (a .t1) ts m =
+    elim (c .before .before .before .before .before .before .before .before .before .before .before .if5 .came) [
+      | inl w ↦ w .2 ∙ op-there (a .t1) ts m k at long _ (w .0 .taken)
+      | inr w ↦ w .2 ∙ w .1 .ensures ∙ op-none (a .t1) ts m k at long (w .0 .left)
+    ] in
     let objects : List Entry = l .objects in
     let all : length objects ≡ 16 = l .inv .0 .all in
     let o : ObjectId = c .before .before .before .before .before .before .before .before .before .before .subject .result in
     let about : o ≡ subject ts m op = c .before .before .before .before .before .before .before .before .before .before .subject .ensures ∙ ap (λ (y : Thread). subjectIn (y .phase) m op) seen ∙ sym (subject-in ts m op) in
-    let e : Entry = c .before .before .before .before .before .before .before .before .if7 .e in
+    let e : Entry = c .before .before .before .before .before .before .if7 .e in
     let out : e ≡ entryAt objects o =
-    elim (c .before .before .before .before .before .before .before .before .if7 .came) [
+    elim (c .before .before .before .before .before .before .if7 .came) [
       | inl w ↦ w .2 ∙ taken-there objects (o .0) _ (omega (arith, w .0 .taken))
       | inr w ↦ w .2 ∙ w .1 .ensures ∙ taken-none objects (o .0) (omega (arith, w .0 .left))
     ] in
     let s : Scene = record { entry = e; threads = ts; turn = l .turn; asked = l .asked } in
-    let is-quiet = ap (λ (y : Thread). isQuiet (y .phase) m (deed .left) (op .call)) (sym seen) ∙ sym (c .before .before .before .before .before .before .before .is-quiet .ensures) ∙ c .before .before .before .before .before .before .if8 .taken in
+    let is-quiet = ap (λ (y : Thread). isQuiet (y .phase) m left (op .call)) (sym seen) ∙ sym (c .before .before .before .before .before .before .before .before .is-quiet .ensures) ∙ c .before .before .before .before .before .before .before .if6 .taken in
     let barred = c .before .before .before .before .is-barred .ensures ∙ ap (λ (y : Bool). isBarred y (op .call) e) (c .before .before .before .before .before .is-begun .ensures) in
     let q : Quiet = c .before .before .quietly .result in
-    let made : q ≡ quietly m (deed .left) op (isBarred (isBegun m) (op .call) e) (asks (op .call) e) (threadAt ts (who m)) (l .turn) (l .asked) =
-    c .before .before .quietly .ensures ∙ (λ i. quietly m (deed .left) op (barred i) (c .before .before .before .asks .ensures i) (seen i) (l .turn) (l .asked)) in
-    let done = ap (λ (u : ThreadId). stayed s u q) (c .before .before .before .before .before .before .before .before .before .before .before .before .before .who3 .ensures) ∙ ap (stayed s (who m)) made ∙ sym (quiet-law op s m (deed .left) is-quiet) in
-    let less = acted-less (a .t1) list (a .world) (l .threads) (l .objects) (l .turn) (l .asked) (l .acting) (l .at) (l .inv .0) deed (c .before .before .before .before .before .before .before .before .before .before .before .before .before .before .before .before .acting2 .given .1) long o about e out (stayed s t q) done in
+    let made : q ≡ quietly m left op (isBarred (isBegun m) (op .call) e) (asks (op .call) e) (threadAt ts (who m)) (l .turn) (l .asked) =
+    c .before .before .quietly .ensures ∙ (λ i. quietly m left op (barred i) (c .before .before .before .asks .ensures i) (seen i) (l .turn) (l .asked)) in
+    let done = ap (λ (u : ThreadId). stayed s u q) (c .before .before .before .before .before .before .before .before .before .before .before .before .before .before .before .who2 .ensures) ∙ ap (stayed s (who m)) made ∙ sym (quiet-law op s m left is-quiet) in
+    let less = acted-less (a .t1) list (a .world) (l .threads) (l .objects) (l .turn) (l .asked) (l .acting) (l .at) (l .inv .0) m (c .before .before .before .before .before .before .before .before .before .before .before .before .before .before .before .before .before .before .acting .given .1) long left is-left op is-op o about e out (stayed s t q) done in
     omega (arith, less)
 
-loop-again-5 : tie.Need-loop-again-5 Inv-loop μ-loop
-loop-again-5 c =
-    let l = c .before .before .before .before .before .before .before .before .before .before .before .before .before .before .before .before .before .before .loop in
-    let a = c .before .before .before .before .before .before .before .before .before .before .before .before .before .before .before .before .before .before .before .before .before .before .args in
+loop-again-3 : tie.Need-loop-again-3 Inv-loop μ-loop
+loop-again-3 c =
+    let l = c .before .before .before .before .before .before .before .before .before .before .before .before .before .before .before .before .before .before .before .before .loop in
+    let a = c .before .before .before .before .before .before .before .before .before .before .before .before .before .before .before .before .before .before .before .before .before .before .before .before .args in
     let list : List ℕ = a .list .now in
+    let m = c .before .before .before .before .before .before .before .before .before .before .before .before .before .before .before .before .before .before .acting .given .0 .0 in
     let ops : List Op = a .t1 .ops in
-    let long : length ops ≡ 192 = sym (length-map ops _) ∙ c .before .before .before .before .before .before .before .before .before .before .before .before .before .before .before .before .before .before .before .before .before .before .good .0 .1 .1 .1 .1 .0 .1 .0 .1 in
-    let deed : Deed = c .before .before .before .before .before .before .before .before .before .before .before .before .before .before .before .before .acting2 .given .0 .0 in
-    let m = deed .moves in
-    let op = deed .op in
+    let long : length ops ≡ 192 = sym (length-map ops _) ∙ c .before .before .before .before .before .before .before .before .before .before .before .before .before .before .before .before .before .before .before .before .before .before .before .before .good .0 .1 .1 .1 .1 .0 .1 .0 .1 in
     let ts : List Thread = l .threads in
     let six : length ts ≡ 6 = l .inv .1 in
-    let t : ThreadId = c .before .before .before .before .before .before .before .before .before .before .before .before .before .who3 .result in
-    let x : Thread = c .before .before .before .before .before .before .before .before .before .before .before .if6 .x in
+    let t : ThreadId = c .before .before .before .before .before .before .before .before .before .before .before .before .before .before .before .who2 .result in
+    let x : Thread = c .before .before .before .before .before .before .before .before .before .before .before .before .before .if4 .x in
     let found : x ≡ threadAt ts t =
-    elim (c .before .before .before .before .before .before .before .before .before .before .before .if6 .came) [
+    elim (c .before .before .before .before .before .before .before .before .before .before .before .before .before .if4 .came) [
       | inl w ↦ w .2 ∙ getD-within ts (t .0) _ _ (omega (arith, w .0 .taken, six))
       | inr w ↦ w .2 ∙ w .1 .ensures ∙ sym (List·getD-eq-default ts _ (omega (arith, w .0 .left, six)))
     ] in
-    let seen : x ≡ threadAt ts (who (m)) = found ∙ ap (threadAt ts) (c .before .before .before .before .before .before .before .before .before .before .before .before .before .who3 .ensures) in
+    let seen : x ≡ threadAt ts (who m) = found ∙ ap (threadAt ts) (c .before .before .before .before .before .before .before .before .before .before .before .before .before .before .before .who2 .ensures) in
+    let k : ℕ = c .before .before .before .before .before .before .before .before .before .before .before .before .place-of .result in
+    let at : k ≡ placeOf (a .t1 .counts) ts m = c .before .before .before .before .before .before .before .before .before .before .before .before .place-of .ensures ∙ ap (λ (y : Thread). placeIn (a .t1 .counts) (y .position) m) seen ∙ sym (place-in (a .t1 .counts) ts m) in
+    let left : Bool = ltb k 192 in
+    let is-left : left ≡ leftOf (a .t1) ts m = ap (λ (j : ℕ). ltb j 192) at in
+    let op : Op = c .before .before .before .before .before .before .before .before .before .before .before .if5 .op in
+    let is-op : op ≡ opOf (a .t1) ts m =
+    elim (c .before .before .before .before .before .before .before .before .before .before .before .if5 .came) [
+      | inl w ↦ w .2 ∙ op-there (a .t1) ts m k at long _ (w .0 .taken)
+      | inr w ↦ w .2 ∙ w .1 .ensures ∙ op-none (a .t1) ts m k at long (w .0 .left)
+    ] in
     let objects : List Entry = l .objects in
     let all : length objects ≡ 16 = l .inv .0 .all in
     let o : ObjectId = c .before .before .before .before .before .before .before .before .before .before .subject .result in
     let about : o ≡ subject ts m op = c .before .before .before .before .before .before .before .before .before .before .subject .ensures ∙ ap (λ (y : Thread). subjectIn (y .phase) m op) seen ∙ sym (subject-in ts m op) in
-    let e : Entry = c .before .before .before .before .before .before .before .before .if7 .e in
+    let e : Entry = c .before .before .before .before .before .before .if7 .e in
     let out : e ≡ entryAt objects o =
-    elim (c .before .before .before .before .before .before .before .before .if7 .came) [
+    elim (c .before .before .before .before .before .before .if7 .came) [
       | inl w ↦ w .2 ∙ taken-there objects (o .0) _ (omega (arith, w .0 .taken))
       | inr w ↦ w .2 ∙ w .1 .ensures ∙ taken-none objects (o .0) (omega (arith, w .0 .left))
     ] in
     let s : Scene = record { entry = e; threads = ts; turn = l .turn; asked = l .asked } in
-    let is-quiet = ap (λ (y : Thread). isQuiet (y .phase) m (deed .left) (op .call)) (sym seen) ∙ sym (c .before .before .before .before .before .before .before .is-quiet .ensures) ∙ c .before .before .before .before .before .before .if8 .taken in
+    let is-quiet = ap (λ (y : Thread). isQuiet (y .phase) m left (op .call)) (sym seen) ∙ sym (c .before .before .before .before .before .before .before .before .is-quiet .ensures) ∙ c .before .before .before .before .before .before .before .if6 .taken in
     let barred = c .before .before .before .before .is-barred .ensures ∙ ap (λ (y : Bool). isBarred y (op .call) e) (c .before .before .before .before .before .is-begun .ensures) in
     let q : Quiet = c .before .before .quietly .result in
-    let made : q ≡ quietly m (deed .left) op (isBarred (isBegun m) (op .call) e) (asks (op .call) e) (threadAt ts (who m)) (l .turn) (l .asked) =
-    c .before .before .quietly .ensures ∙ (λ i. quietly m (deed .left) op (barred i) (c .before .before .before .asks .ensures i) (seen i) (l .turn) (l .asked)) in
-    let done = ap (λ (u : ThreadId). stayed s u q) (c .before .before .before .before .before .before .before .before .before .before .before .before .before .who3 .ensures) ∙ ap (stayed s (who m)) made ∙ sym (quiet-law op s m (deed .left) is-quiet) in
-    let next = acted (a .t1) list (a .world) (l .threads) (l .objects) (l .turn) (l .asked) (l .acting) (l .at) (l .inv .0) deed (c .before .before .before .before .before .before .before .before .before .before .before .before .before .before .before .before .acting2 .given .1) long o about e out (stayed s t q) done objects (sym (ap (set objects (o .0)) out ∙ set-getD objects (o .0) _)) in
-    (subst (λ (us : List Thread). Running (a .t1) list (a .world) us objects (q .turn) (q .asked) (q .acting) (l .at)) (set-out ts (t .0) (q .thread) (omega (arith, c .if9 .left, six))) next, six)
+    let made : q ≡ quietly m left op (isBarred (isBegun m) (op .call) e) (asks (op .call) e) (threadAt ts (who m)) (l .turn) (l .asked) =
+    c .before .before .quietly .ensures ∙ (λ i. quietly m left op (barred i) (c .before .before .before .asks .ensures i) (seen i) (l .turn) (l .asked)) in
+    let done = ap (λ (u : ThreadId). stayed s u q) (c .before .before .before .before .before .before .before .before .before .before .before .before .before .before .before .who2 .ensures) ∙ ap (stayed s (who m)) made ∙ sym (quiet-law op s m left is-quiet) in
+    let next = acted (a .t1) list (a .world) (l .threads) (l .objects) (l .turn) (l .asked) (l .acting) (l .at) (l .inv .0) m (c .before .before .before .before .before .before .before .before .before .before .before .before .before .before .before .before .before .before .acting .given .1) long left is-left op is-op o about e out (stayed s t q) done objects (sym (ap (set objects (o .0)) out ∙ set-getD objects (o .0) _)) in
+    (subst (λ (us : List Thread). Running (a .t1) list (a .world) us objects (q .turn) (q .asked) (q .acting) (l .at)) (set-out ts (t .0) (q .thread) (omega (arith, c .if8 .left, six))) next, six)
+
+mul-e-2 : tie.Need-mul-e-2 Inv-loop μ-loop
+mul-e-2 c = search needs
+
+array-copy-out-e-2 : tie.Need-array-copy-out-e-2 Inv-loop μ-loop
+array-copy-out-e-2 c = search needs
+
+absent-requires-4 : tie.Need-absent-requires-4 Inv-loop μ-loop
+absent-requires-4 c κs = search needs
 
 op-in-requires : tie.Need-op-in-requires Inv-loop μ-loop
 op-in-requires c κs = search needs
@@ -480,38 +431,46 @@ mul-objects c = search needs
 array-set-from-objects : tie.Need-array-set-from-objects Inv-loop μ-loop
 array-set-from-objects c = search needs
 
-loop-less-6 : tie.Need-loop-less-6 Inv-loop μ-loop
-loop-less-6 c =
-    let l = c .before .before .before .before .before .before .before .before .before .before .before .before .before .before .before .before .before .before .before .before .before .before .before .loop in
-    let a = c .before .before .before .before .before .before .before .before .before .before .before .before .before .before .before .before .before .before .before .before .before .before .before .before .before .before .before .args in
+loop-less-4 : tie.Need-loop-less-4 Inv-loop μ-loop
+loop-less-4 c =
+    let l = c .before .before .before .before .before .before .before .before .before .before .before .before .before .before .before .before .before .before .before .before .before .before .before .before .before .loop in
+    let a = c .before .before .before .before .before .before .before .before .before .before .before .before .before .before .before .before .before .before .before .before .before .before .before .before .before .before .before .before .before .args in
     let list : List ℕ = a .list .now in
+    let m = c .before .before .before .before .before .before .before .before .before .before .before .before .before .before .before .before .before .before .before .before .before .before .before .acting .given .0 .0 in
     let ops : List Op = a .t1 .ops in
-    let long : length ops ≡ 192 = sym (length-map ops _) ∙ c .before .before .before .before .before .before .before .before .before .before .before .before .before .before .before .before .before .before .before .before .before .before .before .before .before .before .before .good .0 .1 .1 .1 .1 .0 .1 .0 .1 in
-    let deed : Deed = c .before .before .before .before .before .before .before .before .before .before .before .before .before .before .before .before .before .before .before .before .before .acting2 .given .0 .0 in
-    let m = deed .moves in
-    let op = deed .op in
+    let long : length ops ≡ 192 = sym (length-map ops _) ∙ c .before .before .before .before .before .before .before .before .before .before .before .before .before .before .before .before .before .before .before .before .before .before .before .before .before .before .before .before .before .good .0 .1 .1 .1 .1 .0 .1 .0 .1 in
     let ts : List Thread = l .threads in
     let six : length ts ≡ 6 = l .inv .1 in
-    let t : ThreadId = c .before .before .before .before .before .before .before .before .before .before .before .before .before .before .before .before .before .before .who3 .result in
-    let x : Thread = c .before .before .before .before .before .before .before .before .before .before .before .before .before .before .before .before .if6 .x in
+    let t : ThreadId = c .before .before .before .before .before .before .before .before .before .before .before .before .before .before .before .before .before .before .before .before .who2 .result in
+    let x : Thread = c .before .before .before .before .before .before .before .before .before .before .before .before .before .before .before .before .before .before .if4 .x in
     let found : x ≡ threadAt ts t =
-    elim (c .before .before .before .before .before .before .before .before .before .before .before .before .before .before .before .before .if6 .came) [
+    elim (c .before .before .before .before .before .before .before .before .before .before .before .before .before .before .before .before .before .before .if4 .came) [
       | inl w ↦ w .2 ∙ getD-within ts (t .0) _ _ (omega (arith, w .0 .taken, six))
       | inr w ↦ w .2 ∙ w .1 .ensures ∙ sym (List·getD-eq-default ts _ (omega (arith, w .0 .left, six)))
     ] in
-    let seen : x ≡ threadAt ts (who (m)) = found ∙ ap (threadAt ts) (c .before .before .before .before .before .before .before .before .before .before .before .before .before .before .before .before .before .before .who3 .ensures) in
+    let seen : x ≡ threadAt ts (who m) = found ∙ ap (threadAt ts) (c .before .before .before .before .before .before .before .before .before .before .before .before .before .before .before .before .before .before .before .before .who2 .ensures) in
+    let k : ℕ = c .before .before .before .before .before .before .before .before .before .before .before .before .before .before .before .before .before .place-of .result in
+    let at : k ≡ placeOf (a .t1 .counts) ts m = c .before .before .before .before .before .before .before .before .before .before .before .before .before .before .before .before .before .place-of .ensures ∙ ap (λ (y : Thread). placeIn (a .t1 .counts) (y .position) m) seen ∙ sym (place-in (a .t1 .counts) ts m) in
+    let left : Bool = ltb k 192 in
+    let is-left : left ≡ leftOf (a .t1) ts m = ap (λ (j : ℕ). ltb j 192) at in
+    let op : Op = c .before .before .before .before .before .before .before .before .before .before .before .before .before .before .before .before .if5 .op in
+    let is-op : op ≡ opOf (a .t1) ts m =
+    elim (c .before .before .before .before .before .before .before .before .before .before .before .before .before .before .before .before .if5 .came) [
+      | inl w ↦ w .2 ∙ op-there (a .t1) ts m k at long _ (w .0 .taken)
+      | inr w ↦ w .2 ∙ w .1 .ensures ∙ op-none (a .t1) ts m k at long (w .0 .left)
+    ] in
     let objects : List Entry = l .objects in
     let all : length objects ≡ 16 = l .inv .0 .all in
     let o : ObjectId = c .before .before .before .before .before .before .before .before .before .before .before .before .before .before .before .subject .result in
     let about : o ≡ subject ts m op = c .before .before .before .before .before .before .before .before .before .before .before .before .before .before .before .subject .ensures ∙ ap (λ (y : Thread). subjectIn (y .phase) m op) seen ∙ sym (subject-in ts m op) in
-    let e : Entry = c .before .before .before .before .before .before .before .before .before .before .before .before .before .if7 .e in
+    let e : Entry = c .before .before .before .before .before .before .before .before .before .before .before .if9 .e in
     let out : e ≡ entryAt objects o =
-    elim (c .before .before .before .before .before .before .before .before .before .before .before .before .before .if7 .came) [
+    elim (c .before .before .before .before .before .before .before .before .before .before .before .if9 .came) [
       | inl w ↦ w .2 ∙ taken-there objects (o .0) _ (omega (arith, w .0 .taken))
       | inr w ↦ w .2 ∙ w .1 .ensures ∙ taken-none objects (o .0) (omega (arith, w .0 .left))
     ] in
     let s : Scene = record { entry = e; threads = ts; turn = l .turn; asked = l .asked } in
-    let is-loud = ap (λ (y : Thread). isQuiet (y .phase) m (deed .left) (op .call)) (sym seen) ∙ sym (c .before .before .before .before .before .before .before .before .before .before .before .before .is-quiet .ensures) ∙ c .before .before .before .before .before .before .before .before .before .before .before .if8 .left in
+    let is-loud = ap (λ (y : Thread). isQuiet (y .phase) m left (op .call)) (sym seen) ∙ sym (c .before .before .before .before .before .before .before .before .before .before .before .before .before .is-quiet .ensures) ∙ c .before .before .before .before .before .before .before .before .before .before .before .before .if6 .left in
     let w : Op = c .before .before .before .before .before .before .before .before .before .before .op-in .result in
     let n : ℕ = c .before .before .before .before .before .before .before .before .before .turn-in .result in
     let r : Effect = c .before .before .before .before .before .before .before .before .loudly .result in
@@ -524,194 +483,280 @@ loop-less-6 c =
     let is-us : us ≡ settledBy m (work op s m .call) (doneBy op s m (work op s m) .threads) = c .before .before .settled .ensures ∙ (λ i. settledBy m (is-w i .call) (is-r i .threads)) in
     let is-asked = c .before .asked-in .ensures in
     let moved : Moved = record { acting = c .before .before .before .before .before .before .before .follows .result; scene = record { entry = r .entry; threads = us; turn = n; asked = c .before .asked-in .result } } in
-    let done : moved ≡ act m (deed .left) op s =
+    let done : moved ≡ act m left op s =
     (λ i. record { acting = acting i; scene = record { entry = is-r i .entry; threads = is-us i; turn = is-n i; asked = is-asked i } })
-    ∙ sym (loud-fine op s m (deed .left) is-loud (is-fine ∙ c .before .before .before .before .before .if10 .taken)) in
-    let less = acted-less (a .t1) list (a .world) (l .threads) (l .objects) (l .turn) (l .asked) (l .acting) (l .at) (l .inv .0) deed (c .before .before .before .before .before .before .before .before .before .before .before .before .before .before .before .before .before .before .before .before .before .acting2 .given .1) long o about e out moved done in
+    ∙ sym (loud-fine op s m left is-loud (is-fine ∙ c .before .before .before .before .before .if10 .taken)) in
+    let less = acted-less (a .t1) list (a .world) (l .threads) (l .objects) (l .turn) (l .asked) (l .acting) (l .at) (l .inv .0) m (c .before .before .before .before .before .before .before .before .before .before .before .before .before .before .before .before .before .before .before .before .before .before .before .acting .given .1) long left is-left op is-op o about e out (moved) done in
+    omega (arith, less)
+
+loop-again-4 : tie.Need-loop-again-4 Inv-loop μ-loop
+loop-again-4 c =
+    let l = c .before .before .before .before .before .before .before .before .before .before .before .before .before .before .before .before .before .before .before .before .before .before .before .before .before .loop in
+    let a = c .before .before .before .before .before .before .before .before .before .before .before .before .before .before .before .before .before .before .before .before .before .before .before .before .before .before .before .before .before .args in
+    let list : List ℕ = a .list .now in
+    let m = c .before .before .before .before .before .before .before .before .before .before .before .before .before .before .before .before .before .before .before .before .before .before .before .acting .given .0 .0 in
+    let ops : List Op = a .t1 .ops in
+    let long : length ops ≡ 192 = sym (length-map ops _) ∙ c .before .before .before .before .before .before .before .before .before .before .before .before .before .before .before .before .before .before .before .before .before .before .before .before .before .before .before .before .before .good .0 .1 .1 .1 .1 .0 .1 .0 .1 in
+    let ts : List Thread = l .threads in
+    let six : length ts ≡ 6 = l .inv .1 in
+    let t : ThreadId = c .before .before .before .before .before .before .before .before .before .before .before .before .before .before .before .before .before .before .before .before .who2 .result in
+    let x : Thread = c .before .before .before .before .before .before .before .before .before .before .before .before .before .before .before .before .before .before .if4 .x in
+    let found : x ≡ threadAt ts t =
+    elim (c .before .before .before .before .before .before .before .before .before .before .before .before .before .before .before .before .before .before .if4 .came) [
+      | inl w ↦ w .2 ∙ getD-within ts (t .0) _ _ (omega (arith, w .0 .taken, six))
+      | inr w ↦ w .2 ∙ w .1 .ensures ∙ sym (List·getD-eq-default ts _ (omega (arith, w .0 .left, six)))
+    ] in
+    let seen : x ≡ threadAt ts (who m) = found ∙ ap (threadAt ts) (c .before .before .before .before .before .before .before .before .before .before .before .before .before .before .before .before .before .before .before .before .who2 .ensures) in
+    let k : ℕ = c .before .before .before .before .before .before .before .before .before .before .before .before .before .before .before .before .before .place-of .result in
+    let at : k ≡ placeOf (a .t1 .counts) ts m = c .before .before .before .before .before .before .before .before .before .before .before .before .before .before .before .before .before .place-of .ensures ∙ ap (λ (y : Thread). placeIn (a .t1 .counts) (y .position) m) seen ∙ sym (place-in (a .t1 .counts) ts m) in
+    let left : Bool = ltb k 192 in
+    let is-left : left ≡ leftOf (a .t1) ts m = ap (λ (j : ℕ). ltb j 192) at in
+    let op : Op = c .before .before .before .before .before .before .before .before .before .before .before .before .before .before .before .before .if5 .op in
+    let is-op : op ≡ opOf (a .t1) ts m =
+    elim (c .before .before .before .before .before .before .before .before .before .before .before .before .before .before .before .before .if5 .came) [
+      | inl w ↦ w .2 ∙ op-there (a .t1) ts m k at long _ (w .0 .taken)
+      | inr w ↦ w .2 ∙ w .1 .ensures ∙ op-none (a .t1) ts m k at long (w .0 .left)
+    ] in
+    let objects : List Entry = l .objects in
+    let all : length objects ≡ 16 = l .inv .0 .all in
+    let o : ObjectId = c .before .before .before .before .before .before .before .before .before .before .before .before .before .before .before .subject .result in
+    let about : o ≡ subject ts m op = c .before .before .before .before .before .before .before .before .before .before .before .before .before .before .before .subject .ensures ∙ ap (λ (y : Thread). subjectIn (y .phase) m op) seen ∙ sym (subject-in ts m op) in
+    let e : Entry = c .before .before .before .before .before .before .before .before .before .before .before .if9 .e in
+    let out : e ≡ entryAt objects o =
+    elim (c .before .before .before .before .before .before .before .before .before .before .before .if9 .came) [
+      | inl w ↦ w .2 ∙ taken-there objects (o .0) _ (omega (arith, w .0 .taken))
+      | inr w ↦ w .2 ∙ w .1 .ensures ∙ taken-none objects (o .0) (omega (arith, w .0 .left))
+    ] in
+    let s : Scene = record { entry = e; threads = ts; turn = l .turn; asked = l .asked } in
+    let is-loud = ap (λ (y : Thread). isQuiet (y .phase) m left (op .call)) (sym seen) ∙ sym (c .before .before .before .before .before .before .before .before .before .before .before .before .before .is-quiet .ensures) ∙ c .before .before .before .before .before .before .before .before .before .before .before .before .if6 .left in
+    let w : Op = c .before .before .before .before .before .before .before .before .before .before .op-in .result in
+    let n : ℕ = c .before .before .before .before .before .before .before .before .before .turn-in .result in
+    let r : Effect = c .before .before .before .before .before .before .before .before .loudly .result in
+    let is-w : w ≡ work op s m = c .before .before .before .before .before .before .before .before .before .before .op-in .ensures ∙ ap (λ (y : Thread). opIn (y .phase) m op) seen in
+    let is-n : n ≡ turnIn m (l .turn) = c .before .before .before .before .before .before .before .before .before .turn-in .ensures in
+    let is-r : r ≡ doneBy op s m (work op s m) = c .before .before .before .before .before .before .before .before .loudly .ensures ∙ (λ i. loudly m (is-w i) (is-n i) e ts) in
+    let acting = c .before .before .before .before .before .before .before .follows .ensures ∙ (λ i. follows (is-r i .ending) m (is-w i) (seen i .position)) in
+    let is-fine = ap (λ (y : Effect). isFine (y .ending)) (sym is-r) ∙ sym (c .before .before .before .before .before .before .is-fine .ensures) in
+    let us : List Thread = c .before .before .settled .result in
+    let is-us : us ≡ settledBy m (work op s m .call) (doneBy op s m (work op s m) .threads) = c .before .before .settled .ensures ∙ (λ i. settledBy m (is-w i .call) (is-r i .threads)) in
+    let is-asked = c .before .asked-in .ensures in
+    let moved : Moved = record { acting = c .before .before .before .before .before .before .before .follows .result; scene = record { entry = r .entry; threads = us; turn = n; asked = c .before .asked-in .result } } in
+    let done : moved ≡ act m left op s =
+    (λ i. record { acting = acting i; scene = record { entry = is-r i .entry; threads = is-us i; turn = is-n i; asked = is-asked i } })
+    ∙ sym (loud-fine op s m left is-loud (is-fine ∙ c .before .before .before .before .before .if10 .taken)) in
+    let still : length us ≡ 6 = c .before .before .settled .ok .1 .0 .1 in
+    (acted (a .t1) list (a .world) (l .threads) (l .objects) (l .turn) (l .asked) (l .acting) (l .at) (l .inv .0) m (c .before .before .before .before .before .before .before .before .before .before .before .before .before .before .before .before .before .before .before .before .before .before .before .acting .given .1) long left is-left op is-op o about e out (moved) done _ refl, still)
+
+loop-less-5 : tie.Need-loop-less-5 Inv-loop μ-loop
+loop-less-5 c =
+    let l = c .before .before .before .before .before .before .before .before .before .before .before .before .before .before .before .before .before .before .before .before .before .before .before .before .before .loop in
+    let a = c .before .before .before .before .before .before .before .before .before .before .before .before .before .before .before .before .before .before .before .before .before .before .before .before .before .before .before .before .before .args in
+    let list : List ℕ = a .list .now in
+    let m = c .before .before .before .before .before .before .before .before .before .before .before .before .before .before .before .before .before .before .before .before .before .before .before .acting .given .0 .0 in
+    let ops : List Op = a .t1 .ops in
+    let long : length ops ≡ 192 = sym (length-map ops _) ∙ c .before .before .before .before .before .before .before .before .before .before .before .before .before .before .before .before .before .before .before .before .before .before .before .before .before .before .before .before .before .good .0 .1 .1 .1 .1 .0 .1 .0 .1 in
+    let ts : List Thread = l .threads in
+    let six : length ts ≡ 6 = l .inv .1 in
+    let t : ThreadId = c .before .before .before .before .before .before .before .before .before .before .before .before .before .before .before .before .before .before .before .before .who2 .result in
+    let x : Thread = c .before .before .before .before .before .before .before .before .before .before .before .before .before .before .before .before .before .before .if4 .x in
+    let found : x ≡ threadAt ts t =
+    elim (c .before .before .before .before .before .before .before .before .before .before .before .before .before .before .before .before .before .before .if4 .came) [
+      | inl w ↦ w .2 ∙ getD-within ts (t .0) _ _ (omega (arith, w .0 .taken, six))
+      | inr w ↦ w .2 ∙ w .1 .ensures ∙ sym (List·getD-eq-default ts _ (omega (arith, w .0 .left, six)))
+    ] in
+    let seen : x ≡ threadAt ts (who m) = found ∙ ap (threadAt ts) (c .before .before .before .before .before .before .before .before .before .before .before .before .before .before .before .before .before .before .before .before .who2 .ensures) in
+    let k : ℕ = c .before .before .before .before .before .before .before .before .before .before .before .before .before .before .before .before .before .place-of .result in
+    let at : k ≡ placeOf (a .t1 .counts) ts m = c .before .before .before .before .before .before .before .before .before .before .before .before .before .before .before .before .before .place-of .ensures ∙ ap (λ (y : Thread). placeIn (a .t1 .counts) (y .position) m) seen ∙ sym (place-in (a .t1 .counts) ts m) in
+    let left : Bool = ltb k 192 in
+    let is-left : left ≡ leftOf (a .t1) ts m = ap (λ (j : ℕ). ltb j 192) at in
+    let op : Op = c .before .before .before .before .before .before .before .before .before .before .before .before .before .before .before .before .if5 .op in
+    let is-op : op ≡ opOf (a .t1) ts m =
+    elim (c .before .before .before .before .before .before .before .before .before .before .before .before .before .before .before .before .if5 .came) [
+      | inl w ↦ w .2 ∙ op-there (a .t1) ts m k at long _ (w .0 .taken)
+      | inr w ↦ w .2 ∙ w .1 .ensures ∙ op-none (a .t1) ts m k at long (w .0 .left)
+    ] in
+    let objects : List Entry = l .objects in
+    let all : length objects ≡ 16 = l .inv .0 .all in
+    let o : ObjectId = c .before .before .before .before .before .before .before .before .before .before .before .before .before .before .before .subject .result in
+    let about : o ≡ subject ts m op = c .before .before .before .before .before .before .before .before .before .before .before .before .before .before .before .subject .ensures ∙ ap (λ (y : Thread). subjectIn (y .phase) m op) seen ∙ sym (subject-in ts m op) in
+    let e : Entry = c .before .before .before .before .before .before .before .before .before .before .before .if9 .e in
+    let out : e ≡ entryAt objects o =
+    elim (c .before .before .before .before .before .before .before .before .before .before .before .if9 .came) [
+      | inl w ↦ w .2 ∙ taken-there objects (o .0) _ (omega (arith, w .0 .taken))
+      | inr w ↦ w .2 ∙ w .1 .ensures ∙ taken-none objects (o .0) (omega (arith, w .0 .left))
+    ] in
+    let s : Scene = record { entry = e; threads = ts; turn = l .turn; asked = l .asked } in
+    let is-loud = ap (λ (y : Thread). isQuiet (y .phase) m left (op .call)) (sym seen) ∙ sym (c .before .before .before .before .before .before .before .before .before .before .before .before .before .is-quiet .ensures) ∙ c .before .before .before .before .before .before .before .before .before .before .before .before .if6 .left in
+    let w : Op = c .before .before .before .before .before .before .before .before .before .before .op-in .result in
+    let n : ℕ = c .before .before .before .before .before .before .before .before .before .turn-in .result in
+    let r : Effect = c .before .before .before .before .before .before .before .before .loudly .result in
+    let is-w : w ≡ work op s m = c .before .before .before .before .before .before .before .before .before .before .op-in .ensures ∙ ap (λ (y : Thread). opIn (y .phase) m op) seen in
+    let is-n : n ≡ turnIn m (l .turn) = c .before .before .before .before .before .before .before .before .before .turn-in .ensures in
+    let is-r : r ≡ doneBy op s m (work op s m) = c .before .before .before .before .before .before .before .before .loudly .ensures ∙ (λ i. loudly m (is-w i) (is-n i) e ts) in
+    let acting = c .before .before .before .before .before .before .before .follows .ensures ∙ (λ i. follows (is-r i .ending) m (is-w i) (seen i .position)) in
+    let is-fine = ap (λ (y : Effect). isFine (y .ending)) (sym is-r) ∙ sym (c .before .before .before .before .before .before .is-fine .ensures) in
+    let us : List Thread = c .before .before .settled .result in
+    let is-us : us ≡ settledBy m (work op s m .call) (doneBy op s m (work op s m) .threads) = c .before .before .settled .ensures ∙ (λ i. settledBy m (is-w i .call) (is-r i .threads)) in
+    let is-asked = c .before .asked-in .ensures in
+    let moved : Moved = record { acting = c .before .before .before .before .before .before .before .follows .result; scene = record { entry = r .entry; threads = us; turn = n; asked = c .before .asked-in .result } } in
+    let done : moved ≡ act m left op s =
+    (λ i. record { acting = acting i; scene = record { entry = is-r i .entry; threads = is-us i; turn = is-n i; asked = is-asked i } })
+    ∙ sym (loud-fine op s m left is-loud (is-fine ∙ c .before .before .before .before .before .if10 .taken)) in
+    let less = acted-less (a .t1) list (a .world) (l .threads) (l .objects) (l .turn) (l .asked) (l .acting) (l .at) (l .inv .0) m (c .before .before .before .before .before .before .before .before .before .before .before .before .before .before .before .before .before .before .before .before .before .before .before .acting .given .1) long left is-left op is-op o about e out (moved) done in
+    omega (arith, less)
+
+loop-again-5 : tie.Need-loop-again-5 Inv-loop μ-loop
+loop-again-5 c =
+    let l = c .before .before .before .before .before .before .before .before .before .before .before .before .before .before .before .before .before .before .before .before .before .before .before .before .before .loop in
+    let a = c .before .before .before .before .before .before .before .before .before .before .before .before .before .before .before .before .before .before .before .before .before .before .before .before .before .before .before .before .before .args in
+    let list : List ℕ = a .list .now in
+    let m = c .before .before .before .before .before .before .before .before .before .before .before .before .before .before .before .before .before .before .before .before .before .before .before .acting .given .0 .0 in
+    let ops : List Op = a .t1 .ops in
+    let long : length ops ≡ 192 = sym (length-map ops _) ∙ c .before .before .before .before .before .before .before .before .before .before .before .before .before .before .before .before .before .before .before .before .before .before .before .before .before .before .before .before .before .good .0 .1 .1 .1 .1 .0 .1 .0 .1 in
+    let ts : List Thread = l .threads in
+    let six : length ts ≡ 6 = l .inv .1 in
+    let t : ThreadId = c .before .before .before .before .before .before .before .before .before .before .before .before .before .before .before .before .before .before .before .before .who2 .result in
+    let x : Thread = c .before .before .before .before .before .before .before .before .before .before .before .before .before .before .before .before .before .before .if4 .x in
+    let found : x ≡ threadAt ts t =
+    elim (c .before .before .before .before .before .before .before .before .before .before .before .before .before .before .before .before .before .before .if4 .came) [
+      | inl w ↦ w .2 ∙ getD-within ts (t .0) _ _ (omega (arith, w .0 .taken, six))
+      | inr w ↦ w .2 ∙ w .1 .ensures ∙ sym (List·getD-eq-default ts _ (omega (arith, w .0 .left, six)))
+    ] in
+    let seen : x ≡ threadAt ts (who m) = found ∙ ap (threadAt ts) (c .before .before .before .before .before .before .before .before .before .before .before .before .before .before .before .before .before .before .before .before .who2 .ensures) in
+    let k : ℕ = c .before .before .before .before .before .before .before .before .before .before .before .before .before .before .before .before .before .place-of .result in
+    let at : k ≡ placeOf (a .t1 .counts) ts m = c .before .before .before .before .before .before .before .before .before .before .before .before .before .before .before .before .before .place-of .ensures ∙ ap (λ (y : Thread). placeIn (a .t1 .counts) (y .position) m) seen ∙ sym (place-in (a .t1 .counts) ts m) in
+    let left : Bool = ltb k 192 in
+    let is-left : left ≡ leftOf (a .t1) ts m = ap (λ (j : ℕ). ltb j 192) at in
+    let op : Op = c .before .before .before .before .before .before .before .before .before .before .before .before .before .before .before .before .if5 .op in
+    let is-op : op ≡ opOf (a .t1) ts m =
+    elim (c .before .before .before .before .before .before .before .before .before .before .before .before .before .before .before .before .if5 .came) [
+      | inl w ↦ w .2 ∙ op-there (a .t1) ts m k at long _ (w .0 .taken)
+      | inr w ↦ w .2 ∙ w .1 .ensures ∙ op-none (a .t1) ts m k at long (w .0 .left)
+    ] in
+    let objects : List Entry = l .objects in
+    let all : length objects ≡ 16 = l .inv .0 .all in
+    let o : ObjectId = c .before .before .before .before .before .before .before .before .before .before .before .before .before .before .before .subject .result in
+    let about : o ≡ subject ts m op = c .before .before .before .before .before .before .before .before .before .before .before .before .before .before .before .subject .ensures ∙ ap (λ (y : Thread). subjectIn (y .phase) m op) seen ∙ sym (subject-in ts m op) in
+    let e : Entry = c .before .before .before .before .before .before .before .before .before .before .before .if9 .e in
+    let out : e ≡ entryAt objects o =
+    elim (c .before .before .before .before .before .before .before .before .before .before .before .if9 .came) [
+      | inl w ↦ w .2 ∙ taken-there objects (o .0) _ (omega (arith, w .0 .taken))
+      | inr w ↦ w .2 ∙ w .1 .ensures ∙ taken-none objects (o .0) (omega (arith, w .0 .left))
+    ] in
+    let s : Scene = record { entry = e; threads = ts; turn = l .turn; asked = l .asked } in
+    let is-loud = ap (λ (y : Thread). isQuiet (y .phase) m left (op .call)) (sym seen) ∙ sym (c .before .before .before .before .before .before .before .before .before .before .before .before .before .is-quiet .ensures) ∙ c .before .before .before .before .before .before .before .before .before .before .before .before .if6 .left in
+    let w : Op = c .before .before .before .before .before .before .before .before .before .before .op-in .result in
+    let n : ℕ = c .before .before .before .before .before .before .before .before .before .turn-in .result in
+    let r : Effect = c .before .before .before .before .before .before .before .before .loudly .result in
+    let is-w : w ≡ work op s m = c .before .before .before .before .before .before .before .before .before .before .op-in .ensures ∙ ap (λ (y : Thread). opIn (y .phase) m op) seen in
+    let is-n : n ≡ turnIn m (l .turn) = c .before .before .before .before .before .before .before .before .before .turn-in .ensures in
+    let is-r : r ≡ doneBy op s m (work op s m) = c .before .before .before .before .before .before .before .before .loudly .ensures ∙ (λ i. loudly m (is-w i) (is-n i) e ts) in
+    let acting = c .before .before .before .before .before .before .before .follows .ensures ∙ (λ i. follows (is-r i .ending) m (is-w i) (seen i .position)) in
+    let is-fine = ap (λ (y : Effect). isFine (y .ending)) (sym is-r) ∙ sym (c .before .before .before .before .before .before .is-fine .ensures) in
+    let us : List Thread = c .before .before .settled .result in
+    let is-us : us ≡ settledBy m (work op s m .call) (doneBy op s m (work op s m) .threads) = c .before .before .settled .ensures ∙ (λ i. settledBy m (is-w i .call) (is-r i .threads)) in
+    let is-asked = c .before .asked-in .ensures in
+    let moved : Moved = record { acting = c .before .before .before .before .before .before .before .follows .result; scene = record { entry = r .entry; threads = us; turn = n; asked = c .before .asked-in .result } } in
+    let done : moved ≡ act m left op s =
+    (λ i. record { acting = acting i; scene = record { entry = is-r i .entry; threads = is-us i; turn = is-n i; asked = is-asked i } })
+    ∙ sym (loud-fine op s m left is-loud (is-fine ∙ c .before .before .before .before .before .if10 .taken)) in
+    let still : length us ≡ 6 = c .before .before .settled .ok .1 .0 .1 in
+    (acted (a .t1) list (a .world) (l .threads) (l .objects) (l .turn) (l .asked) (l .acting) (l .at) (l .inv .0) m (c .before .before .before .before .before .before .before .before .before .before .before .before .before .before .before .before .before .before .before .before .before .before .before .acting .given .1) long left is-left op is-op o about e out (moved) done _ (sym (set-out objects (o .0) _ (omega (arith, c .if11 .left)))), still)
+
+loop-less-6 : tie.Need-loop-less-6 Inv-loop μ-loop
+loop-less-6 c =
+    let l = c .before .before .before .before .before .before .before .before .before .before .before .before .before .before .before .before .before .before .before .before .loop in
+    let a = c .before .before .before .before .before .before .before .before .before .before .before .before .before .before .before .before .before .before .before .before .before .before .before .before .args in
+    let list : List ℕ = a .list .now in
+    let m = c .before .before .before .before .before .before .before .before .before .before .before .before .before .before .before .before .before .before .acting .given .0 .0 in
+    let ops : List Op = a .t1 .ops in
+    let long : length ops ≡ 192 = sym (length-map ops _) ∙ c .before .before .before .before .before .before .before .before .before .before .before .before .before .before .before .before .before .before .before .before .before .before .before .before .good .0 .1 .1 .1 .1 .0 .1 .0 .1 in
+    let ts : List Thread = l .threads in
+    let six : length ts ≡ 6 = l .inv .1 in
+    let t : ThreadId = c .before .before .before .before .before .before .before .before .before .before .before .before .before .before .before .who2 .result in
+    let x : Thread = c .before .before .before .before .before .before .before .before .before .before .before .before .before .if4 .x in
+    let found : x ≡ threadAt ts t =
+    elim (c .before .before .before .before .before .before .before .before .before .before .before .before .before .if4 .came) [
+      | inl w ↦ w .2 ∙ getD-within ts (t .0) _ _ (omega (arith, w .0 .taken, six))
+      | inr w ↦ w .2 ∙ w .1 .ensures ∙ sym (List·getD-eq-default ts _ (omega (arith, w .0 .left, six)))
+    ] in
+    let seen : x ≡ threadAt ts (who m) = found ∙ ap (threadAt ts) (c .before .before .before .before .before .before .before .before .before .before .before .before .before .before .before .who2 .ensures) in
+    let k : ℕ = c .before .before .before .before .before .before .before .before .before .before .before .before .place-of .result in
+    let at : k ≡ placeOf (a .t1 .counts) ts m = c .before .before .before .before .before .before .before .before .before .before .before .before .place-of .ensures ∙ ap (λ (y : Thread). placeIn (a .t1 .counts) (y .position) m) seen ∙ sym (place-in (a .t1 .counts) ts m) in
+    let left : Bool = ltb k 192 in
+    let is-left : left ≡ leftOf (a .t1) ts m = ap (λ (j : ℕ). ltb j 192) at in
+    let op : Op = c .before .before .before .before .before .before .before .before .before .before .before .if5 .op in
+    let is-op : op ≡ opOf (a .t1) ts m =
+    elim (c .before .before .before .before .before .before .before .before .before .before .before .if5 .came) [
+      | inl w ↦ w .2 ∙ op-there (a .t1) ts m k at long _ (w .0 .taken)
+      | inr w ↦ w .2 ∙ w .1 .ensures ∙ op-none (a .t1) ts m k at long (w .0 .left)
+    ] in
+    let objects : List Entry = l .objects in
+    let all : length objects ≡ 16 = l .inv .0 .all in
+    let o : ObjectId = c .before .before .before .before .before .before .before .before .before .before .subject .result in
+    let about : o ≡ subject ts m op = c .before .before .before .before .before .before .before .before .before .before .subject .ensures ∙ ap (λ (y : Thread). subjectIn (y .phase) m op) seen ∙ sym (subject-in ts m op) in
+    let e : Entry = c .before .before .before .before .before .before .if9 .e in
+    let out : e ≡ entryAt objects o =
+    elim (c .before .before .before .before .before .before .if9 .came) [
+      | inl w ↦ w .2 ∙ taken-there objects (o .0) _ (omega (arith, w .0 .taken))
+      | inr w ↦ w .2 ∙ w .1 .ensures ∙ taken-none objects (o .0) (omega (arith, w .0 .left))
+    ] in
+    let s : Scene = record { entry = e; threads = ts; turn = l .turn; asked = l .asked } in
+    let is-loud = ap (λ (y : Thread). isQuiet (y .phase) m left (op .call)) (sym seen) ∙ sym (c .before .before .before .before .before .before .before .before .is-quiet .ensures) ∙ c .before .before .before .before .before .before .before .if6 .left in
+    let w : Op = c .before .before .before .before .before .op-in .result in
+    let n : ℕ = c .before .before .before .before .turn-in .result in
+    let r : Effect = c .before .before .before .loudly .result in
+    let is-w : w ≡ work op s m = c .before .before .before .before .before .op-in .ensures ∙ ap (λ (y : Thread). opIn (y .phase) m op) seen in
+    let is-n : n ≡ turnIn m (l .turn) = c .before .before .before .before .turn-in .ensures in
+    let is-r : r ≡ doneBy op s m (work op s m) = c .before .before .before .loudly .ensures ∙ (λ i. loudly m (is-w i) (is-n i) e ts) in
+    let acting = c .before .before .follows .ensures ∙ (λ i. follows (is-r i .ending) m (is-w i) (seen i .position)) in
+    let is-fine = ap (λ (y : Effect). isFine (y .ending)) (sym is-r) ∙ sym (c .before .is-fine .ensures) in
+    let moved : Moved = record { acting = c .before .before .follows .result; scene = s } in
+    let done : moved ≡ act m left op s =
+    (λ i. record { acting = acting i; scene = s }) ∙ sym (loud-fails op s m left is-loud (is-fine ∙ c .if10 .left)) in
+    let less = acted-less (a .t1) list (a .world) (l .threads) (l .objects) (l .turn) (l .asked) (l .acting) (l .at) (l .inv .0) m (c .before .before .before .before .before .before .before .before .before .before .before .before .before .before .before .before .before .before .acting .given .1) long left is-left op is-op o about e out (moved) done in
     omega (arith, less)
 
 loop-again-6 : tie.Need-loop-again-6 Inv-loop μ-loop
 loop-again-6 c =
-    let l = c .before .before .before .before .before .before .before .before .before .before .before .before .before .before .before .before .before .before .before .before .before .before .before .loop in
-    let a = c .before .before .before .before .before .before .before .before .before .before .before .before .before .before .before .before .before .before .before .before .before .before .before .before .before .before .before .args in
+    let l = c .before .before .before .before .before .before .before .before .before .before .before .before .before .before .before .before .before .before .before .before .loop in
+    let a = c .before .before .before .before .before .before .before .before .before .before .before .before .before .before .before .before .before .before .before .before .before .before .before .before .args in
     let list : List ℕ = a .list .now in
+    let m = c .before .before .before .before .before .before .before .before .before .before .before .before .before .before .before .before .before .before .acting .given .0 .0 in
     let ops : List Op = a .t1 .ops in
-    let long : length ops ≡ 192 = sym (length-map ops _) ∙ c .before .before .before .before .before .before .before .before .before .before .before .before .before .before .before .before .before .before .before .before .before .before .before .before .before .before .before .good .0 .1 .1 .1 .1 .0 .1 .0 .1 in
-    let deed : Deed = c .before .before .before .before .before .before .before .before .before .before .before .before .before .before .before .before .before .before .before .before .before .acting2 .given .0 .0 in
-    let m = deed .moves in
-    let op = deed .op in
+    let long : length ops ≡ 192 = sym (length-map ops _) ∙ c .before .before .before .before .before .before .before .before .before .before .before .before .before .before .before .before .before .before .before .before .before .before .before .before .good .0 .1 .1 .1 .1 .0 .1 .0 .1 in
     let ts : List Thread = l .threads in
     let six : length ts ≡ 6 = l .inv .1 in
-    let t : ThreadId = c .before .before .before .before .before .before .before .before .before .before .before .before .before .before .before .before .before .before .who3 .result in
-    let x : Thread = c .before .before .before .before .before .before .before .before .before .before .before .before .before .before .before .before .if6 .x in
+    let t : ThreadId = c .before .before .before .before .before .before .before .before .before .before .before .before .before .before .before .who2 .result in
+    let x : Thread = c .before .before .before .before .before .before .before .before .before .before .before .before .before .if4 .x in
     let found : x ≡ threadAt ts t =
-    elim (c .before .before .before .before .before .before .before .before .before .before .before .before .before .before .before .before .if6 .came) [
+    elim (c .before .before .before .before .before .before .before .before .before .before .before .before .before .if4 .came) [
       | inl w ↦ w .2 ∙ getD-within ts (t .0) _ _ (omega (arith, w .0 .taken, six))
       | inr w ↦ w .2 ∙ w .1 .ensures ∙ sym (List·getD-eq-default ts _ (omega (arith, w .0 .left, six)))
     ] in
-    let seen : x ≡ threadAt ts (who (m)) = found ∙ ap (threadAt ts) (c .before .before .before .before .before .before .before .before .before .before .before .before .before .before .before .before .before .before .who3 .ensures) in
-    let objects : List Entry = l .objects in
-    let all : length objects ≡ 16 = l .inv .0 .all in
-    let o : ObjectId = c .before .before .before .before .before .before .before .before .before .before .before .before .before .before .before .subject .result in
-    let about : o ≡ subject ts m op = c .before .before .before .before .before .before .before .before .before .before .before .before .before .before .before .subject .ensures ∙ ap (λ (y : Thread). subjectIn (y .phase) m op) seen ∙ sym (subject-in ts m op) in
-    let e : Entry = c .before .before .before .before .before .before .before .before .before .before .before .before .before .if7 .e in
-    let out : e ≡ entryAt objects o =
-    elim (c .before .before .before .before .before .before .before .before .before .before .before .before .before .if7 .came) [
-      | inl w ↦ w .2 ∙ taken-there objects (o .0) _ (omega (arith, w .0 .taken))
-      | inr w ↦ w .2 ∙ w .1 .ensures ∙ taken-none objects (o .0) (omega (arith, w .0 .left))
+    let seen : x ≡ threadAt ts (who m) = found ∙ ap (threadAt ts) (c .before .before .before .before .before .before .before .before .before .before .before .before .before .before .before .who2 .ensures) in
+    let k : ℕ = c .before .before .before .before .before .before .before .before .before .before .before .before .place-of .result in
+    let at : k ≡ placeOf (a .t1 .counts) ts m = c .before .before .before .before .before .before .before .before .before .before .before .before .place-of .ensures ∙ ap (λ (y : Thread). placeIn (a .t1 .counts) (y .position) m) seen ∙ sym (place-in (a .t1 .counts) ts m) in
+    let left : Bool = ltb k 192 in
+    let is-left : left ≡ leftOf (a .t1) ts m = ap (λ (j : ℕ). ltb j 192) at in
+    let op : Op = c .before .before .before .before .before .before .before .before .before .before .before .if5 .op in
+    let is-op : op ≡ opOf (a .t1) ts m =
+    elim (c .before .before .before .before .before .before .before .before .before .before .before .if5 .came) [
+      | inl w ↦ w .2 ∙ op-there (a .t1) ts m k at long _ (w .0 .taken)
+      | inr w ↦ w .2 ∙ w .1 .ensures ∙ op-none (a .t1) ts m k at long (w .0 .left)
     ] in
-    let s : Scene = record { entry = e; threads = ts; turn = l .turn; asked = l .asked } in
-    let is-loud = ap (λ (y : Thread). isQuiet (y .phase) m (deed .left) (op .call)) (sym seen) ∙ sym (c .before .before .before .before .before .before .before .before .before .before .before .before .is-quiet .ensures) ∙ c .before .before .before .before .before .before .before .before .before .before .before .if8 .left in
-    let w : Op = c .before .before .before .before .before .before .before .before .before .before .op-in .result in
-    let n : ℕ = c .before .before .before .before .before .before .before .before .before .turn-in .result in
-    let r : Effect = c .before .before .before .before .before .before .before .before .loudly .result in
-    let is-w : w ≡ work op s m = c .before .before .before .before .before .before .before .before .before .before .op-in .ensures ∙ ap (λ (y : Thread). opIn (y .phase) m op) seen in
-    let is-n : n ≡ turnIn m (l .turn) = c .before .before .before .before .before .before .before .before .before .turn-in .ensures in
-    let is-r : r ≡ doneBy op s m (work op s m) = c .before .before .before .before .before .before .before .before .loudly .ensures ∙ (λ i. loudly m (is-w i) (is-n i) e ts) in
-    let acting = c .before .before .before .before .before .before .before .follows .ensures ∙ (λ i. follows (is-r i .ending) m (is-w i) (seen i .position)) in
-    let is-fine = ap (λ (y : Effect). isFine (y .ending)) (sym is-r) ∙ sym (c .before .before .before .before .before .before .is-fine .ensures) in
-    let us : List Thread = c .before .before .settled .result in
-    let is-us : us ≡ settledBy m (work op s m .call) (doneBy op s m (work op s m) .threads) = c .before .before .settled .ensures ∙ (λ i. settledBy m (is-w i .call) (is-r i .threads)) in
-    let is-asked = c .before .asked-in .ensures in
-    let moved : Moved = record { acting = c .before .before .before .before .before .before .before .follows .result; scene = record { entry = r .entry; threads = us; turn = n; asked = c .before .asked-in .result } } in
-    let done : moved ≡ act m (deed .left) op s =
-    (λ i. record { acting = acting i; scene = record { entry = is-r i .entry; threads = is-us i; turn = is-n i; asked = is-asked i } })
-    ∙ sym (loud-fine op s m (deed .left) is-loud (is-fine ∙ c .before .before .before .before .before .if10 .taken)) in
-    let still : length us ≡ 6 = c .before .before .settled .ok .1 .0 .1 in
-    (acted (a .t1) list (a .world) (l .threads) (l .objects) (l .turn) (l .asked) (l .acting) (l .at) (l .inv .0) deed (c .before .before .before .before .before .before .before .before .before .before .before .before .before .before .before .before .before .before .before .before .before .acting2 .given .1) long o about e out moved done _ refl, still)
-
-loop-less-7 : tie.Need-loop-less-7 Inv-loop μ-loop
-loop-less-7 c =
-    let l = c .before .before .before .before .before .before .before .before .before .before .before .before .before .before .before .before .before .before .before .before .before .before .before .loop in
-    let a = c .before .before .before .before .before .before .before .before .before .before .before .before .before .before .before .before .before .before .before .before .before .before .before .before .before .before .before .args in
-    let list : List ℕ = a .list .now in
-    let ops : List Op = a .t1 .ops in
-    let long : length ops ≡ 192 = sym (length-map ops _) ∙ c .before .before .before .before .before .before .before .before .before .before .before .before .before .before .before .before .before .before .before .before .before .before .before .before .before .before .before .good .0 .1 .1 .1 .1 .0 .1 .0 .1 in
-    let deed : Deed = c .before .before .before .before .before .before .before .before .before .before .before .before .before .before .before .before .before .before .before .before .before .acting2 .given .0 .0 in
-    let m = deed .moves in
-    let op = deed .op in
-    let ts : List Thread = l .threads in
-    let six : length ts ≡ 6 = l .inv .1 in
-    let t : ThreadId = c .before .before .before .before .before .before .before .before .before .before .before .before .before .before .before .before .before .before .who3 .result in
-    let x : Thread = c .before .before .before .before .before .before .before .before .before .before .before .before .before .before .before .before .if6 .x in
-    let found : x ≡ threadAt ts t =
-    elim (c .before .before .before .before .before .before .before .before .before .before .before .before .before .before .before .before .if6 .came) [
-      | inl w ↦ w .2 ∙ getD-within ts (t .0) _ _ (omega (arith, w .0 .taken, six))
-      | inr w ↦ w .2 ∙ w .1 .ensures ∙ sym (List·getD-eq-default ts _ (omega (arith, w .0 .left, six)))
-    ] in
-    let seen : x ≡ threadAt ts (who (m)) = found ∙ ap (threadAt ts) (c .before .before .before .before .before .before .before .before .before .before .before .before .before .before .before .before .before .before .who3 .ensures) in
-    let objects : List Entry = l .objects in
-    let all : length objects ≡ 16 = l .inv .0 .all in
-    let o : ObjectId = c .before .before .before .before .before .before .before .before .before .before .before .before .before .before .before .subject .result in
-    let about : o ≡ subject ts m op = c .before .before .before .before .before .before .before .before .before .before .before .before .before .before .before .subject .ensures ∙ ap (λ (y : Thread). subjectIn (y .phase) m op) seen ∙ sym (subject-in ts m op) in
-    let e : Entry = c .before .before .before .before .before .before .before .before .before .before .before .before .before .if7 .e in
-    let out : e ≡ entryAt objects o =
-    elim (c .before .before .before .before .before .before .before .before .before .before .before .before .before .if7 .came) [
-      | inl w ↦ w .2 ∙ taken-there objects (o .0) _ (omega (arith, w .0 .taken))
-      | inr w ↦ w .2 ∙ w .1 .ensures ∙ taken-none objects (o .0) (omega (arith, w .0 .left))
-    ] in
-    let s : Scene = record { entry = e; threads = ts; turn = l .turn; asked = l .asked } in
-    let is-loud = ap (λ (y : Thread). isQuiet (y .phase) m (deed .left) (op .call)) (sym seen) ∙ sym (c .before .before .before .before .before .before .before .before .before .before .before .before .is-quiet .ensures) ∙ c .before .before .before .before .before .before .before .before .before .before .before .if8 .left in
-    let w : Op = c .before .before .before .before .before .before .before .before .before .before .op-in .result in
-    let n : ℕ = c .before .before .before .before .before .before .before .before .before .turn-in .result in
-    let r : Effect = c .before .before .before .before .before .before .before .before .loudly .result in
-    let is-w : w ≡ work op s m = c .before .before .before .before .before .before .before .before .before .before .op-in .ensures ∙ ap (λ (y : Thread). opIn (y .phase) m op) seen in
-    let is-n : n ≡ turnIn m (l .turn) = c .before .before .before .before .before .before .before .before .before .turn-in .ensures in
-    let is-r : r ≡ doneBy op s m (work op s m) = c .before .before .before .before .before .before .before .before .loudly .ensures ∙ (λ i. loudly m (is-w i) (is-n i) e ts) in
-    let acting = c .before .before .before .before .before .before .before .follows .ensures ∙ (λ i. follows (is-r i .ending) m (is-w i) (seen i .position)) in
-    let is-fine = ap (λ (y : Effect). isFine (y .ending)) (sym is-r) ∙ sym (c .before .before .before .before .before .before .is-fine .ensures) in
-    let us : List Thread = c .before .before .settled .result in
-    let is-us : us ≡ settledBy m (work op s m .call) (doneBy op s m (work op s m) .threads) = c .before .before .settled .ensures ∙ (λ i. settledBy m (is-w i .call) (is-r i .threads)) in
-    let is-asked = c .before .asked-in .ensures in
-    let moved : Moved = record { acting = c .before .before .before .before .before .before .before .follows .result; scene = record { entry = r .entry; threads = us; turn = n; asked = c .before .asked-in .result } } in
-    let done : moved ≡ act m (deed .left) op s =
-    (λ i. record { acting = acting i; scene = record { entry = is-r i .entry; threads = is-us i; turn = is-n i; asked = is-asked i } })
-    ∙ sym (loud-fine op s m (deed .left) is-loud (is-fine ∙ c .before .before .before .before .before .if10 .taken)) in
-    let less = acted-less (a .t1) list (a .world) (l .threads) (l .objects) (l .turn) (l .asked) (l .acting) (l .at) (l .inv .0) deed (c .before .before .before .before .before .before .before .before .before .before .before .before .before .before .before .before .before .before .before .before .before .acting2 .given .1) long o about e out moved done in
-    omega (arith, less)
-
-loop-again-7 : tie.Need-loop-again-7 Inv-loop μ-loop
-loop-again-7 c =
-    let l = c .before .before .before .before .before .before .before .before .before .before .before .before .before .before .before .before .before .before .before .before .before .before .before .loop in
-    let a = c .before .before .before .before .before .before .before .before .before .before .before .before .before .before .before .before .before .before .before .before .before .before .before .before .before .before .before .args in
-    let list : List ℕ = a .list .now in
-    let ops : List Op = a .t1 .ops in
-    let long : length ops ≡ 192 = sym (length-map ops _) ∙ c .before .before .before .before .before .before .before .before .before .before .before .before .before .before .before .before .before .before .before .before .before .before .before .before .before .before .before .good .0 .1 .1 .1 .1 .0 .1 .0 .1 in
-    let deed : Deed = c .before .before .before .before .before .before .before .before .before .before .before .before .before .before .before .before .before .before .before .before .before .acting2 .given .0 .0 in
-    let m = deed .moves in
-    let op = deed .op in
-    let ts : List Thread = l .threads in
-    let six : length ts ≡ 6 = l .inv .1 in
-    let t : ThreadId = c .before .before .before .before .before .before .before .before .before .before .before .before .before .before .before .before .before .before .who3 .result in
-    let x : Thread = c .before .before .before .before .before .before .before .before .before .before .before .before .before .before .before .before .if6 .x in
-    let found : x ≡ threadAt ts t =
-    elim (c .before .before .before .before .before .before .before .before .before .before .before .before .before .before .before .before .if6 .came) [
-      | inl w ↦ w .2 ∙ getD-within ts (t .0) _ _ (omega (arith, w .0 .taken, six))
-      | inr w ↦ w .2 ∙ w .1 .ensures ∙ sym (List·getD-eq-default ts _ (omega (arith, w .0 .left, six)))
-    ] in
-    let seen : x ≡ threadAt ts (who (m)) = found ∙ ap (threadAt ts) (c .before .before .before .before .before .before .before .before .before .before .before .before .before .before .before .before .before .before .who3 .ensures) in
-    let objects : List Entry = l .objects in
-    let all : length objects ≡ 16 = l .inv .0 .all in
-    let o : ObjectId = c .before .before .before .before .before .before .before .before .before .before .before .before .before .before .before .subject .result in
-    let about : o ≡ subject ts m op = c .before .before .before .before .before .before .before .before .before .before .before .before .before .before .before .subject .ensures ∙ ap (λ (y : Thread). subjectIn (y .phase) m op) seen ∙ sym (subject-in ts m op) in
-    let e : Entry = c .before .before .before .before .before .before .before .before .before .before .before .before .before .if7 .e in
-    let out : e ≡ entryAt objects o =
-    elim (c .before .before .before .before .before .before .before .before .before .before .before .before .before .if7 .came) [
-      | inl w ↦ w .2 ∙ taken-there objects (o .0) _ (omega (arith, w .0 .taken))
-      | inr w ↦ w .2 ∙ w .1 .ensures ∙ taken-none objects (o .0) (omega (arith, w .0 .left))
-    ] in
-    let s : Scene = record { entry = e; threads = ts; turn = l .turn; asked = l .asked } in
-    let is-loud = ap (λ (y : Thread). isQuiet (y .phase) m (deed .left) (op .call)) (sym seen) ∙ sym (c .before .before .before .before .before .before .before .before .before .before .before .before .is-quiet .ensures) ∙ c .before .before .before .before .before .before .before .before .before .before .before .if8 .left in
-    let w : Op = c .before .before .before .before .before .before .before .before .before .before .op-in .result in
-    let n : ℕ = c .before .before .before .before .before .before .before .before .before .turn-in .result in
-    let r : Effect = c .before .before .before .before .before .before .before .before .loudly .result in
-    let is-w : w ≡ work op s m = c .before .before .before .before .before .before .before .before .before .before .op-in .ensures ∙ ap (λ (y : Thread). opIn (y .phase) m op) seen in
-    let is-n : n ≡ turnIn m (l .turn) = c .before .before .before .before .before .before .before .before .before .turn-in .ensures in
-    let is-r : r ≡ doneBy op s m (work op s m) = c .before .before .before .before .before .before .before .before .loudly .ensures ∙ (λ i. loudly m (is-w i) (is-n i) e ts) in
-    let acting = c .before .before .before .before .before .before .before .follows .ensures ∙ (λ i. follows (is-r i .ending) m (is-w i) (seen i .position)) in
-    let is-fine = ap (λ (y : Effect). isFine (y .ending)) (sym is-r) ∙ sym (c .before .before .before .before .before .before .is-fine .ensures) in
-    let us : List Thread = c .before .before .settled .result in
-    let is-us : us ≡ settledBy m (work op s m .call) (doneBy op s m (work op s m) .threads) = c .before .before .settled .ensures ∙ (λ i. settledBy m (is-w i .call) (is-r i .threads)) in
-    let is-asked = c .before .asked-in .ensures in
-    let moved : Moved = record { acting = c .before .before .before .before .before .before .before .follows .result; scene = record { entry = r .entry; threads = us; turn = n; asked = c .before .asked-in .result } } in
-    let done : moved ≡ act m (deed .left) op s =
-    (λ i. record { acting = acting i; scene = record { entry = is-r i .entry; threads = is-us i; turn = is-n i; asked = is-asked i } })
-    ∙ sym (loud-fine op s m (deed .left) is-loud (is-fine ∙ c .before .before .before .before .before .if10 .taken)) in
-    let still : length us ≡ 6 = c .before .before .settled .ok .1 .0 .1 in
-    (acted (a .t1) list (a .world) (l .threads) (l .objects) (l .turn) (l .asked) (l .acting) (l .at) (l .inv .0) deed (c .before .before .before .before .before .before .before .before .before .before .before .before .before .before .before .before .before .before .before .before .before .acting2 .given .1) long o about e out moved done _ (sym (set-out objects (o .0) _ (omega (arith, c .if11 .left)))), still)
-
-loop-less-8 : tie.Need-loop-less-8 Inv-loop μ-loop
-loop-less-8 c =
-    let l = c .before .before .before .before .before .before .before .before .before .before .before .before .before .before .before .before .before .before .loop in
-    let a = c .before .before .before .before .before .before .before .before .before .before .before .before .before .before .before .before .before .before .before .before .before .before .args in
-    let list : List ℕ = a .list .now in
-    let ops : List Op = a .t1 .ops in
-    let long : length ops ≡ 192 = sym (length-map ops _) ∙ c .before .before .before .before .before .before .before .before .before .before .before .before .before .before .before .before .before .before .before .before .before .before .good .0 .1 .1 .1 .1 .0 .1 .0 .1 in
-    let deed : Deed = c .before .before .before .before .before .before .before .before .before .before .before .before .before .before .before .before .acting2 .given .0 .0 in
-    let m = deed .moves in
-    let op = deed .op in
-    let ts : List Thread = l .threads in
-    let six : length ts ≡ 6 = l .inv .1 in
-    let t : ThreadId = c .before .before .before .before .before .before .before .before .before .before .before .before .before .who3 .result in
-    let x : Thread = c .before .before .before .before .before .before .before .before .before .before .before .if6 .x in
-    let found : x ≡ threadAt ts t =
-    elim (c .before .before .before .before .before .before .before .before .before .before .before .if6 .came) [
-      | inl w ↦ w .2 ∙ getD-within ts (t .0) _ _ (omega (arith, w .0 .taken, six))
-      | inr w ↦ w .2 ∙ w .1 .ensures ∙ sym (List·getD-eq-default ts _ (omega (arith, w .0 .left, six)))
-    ] in
-    let seen : x ≡ threadAt ts (who (m)) = found ∙ ap (threadAt ts) (c .before .before .before .before .before .before .before .before .before .before .before .before .before .who3 .ensures) in
     let objects : List Entry = l .objects in
     let all : length objects ≡ 16 = l .inv .0 .all in
     let o : ObjectId = c .before .before .before .before .before .before .before .before .before .before .subject .result in
     let about : o ≡ subject ts m op = c .before .before .before .before .before .before .before .before .before .before .subject .ensures ∙ ap (λ (y : Thread). subjectIn (y .phase) m op) seen ∙ sym (subject-in ts m op) in
-    let e : Entry = c .before .before .before .before .before .before .before .before .if7 .e in
+    let e : Entry = c .before .before .before .before .before .before .if9 .e in
     let out : e ≡ entryAt objects o =
-    elim (c .before .before .before .before .before .before .before .before .if7 .came) [
+    elim (c .before .before .before .before .before .before .if9 .came) [
       | inl w ↦ w .2 ∙ taken-there objects (o .0) _ (omega (arith, w .0 .taken))
       | inr w ↦ w .2 ∙ w .1 .ensures ∙ taken-none objects (o .0) (omega (arith, w .0 .left))
     ] in
     let s : Scene = record { entry = e; threads = ts; turn = l .turn; asked = l .asked } in
-    let is-loud = ap (λ (y : Thread). isQuiet (y .phase) m (deed .left) (op .call)) (sym seen) ∙ sym (c .before .before .before .before .before .before .before .is-quiet .ensures) ∙ c .before .before .before .before .before .before .if8 .left in
+    let is-loud = ap (λ (y : Thread). isQuiet (y .phase) m left (op .call)) (sym seen) ∙ sym (c .before .before .before .before .before .before .before .before .is-quiet .ensures) ∙ c .before .before .before .before .before .before .before .if6 .left in
     let w : Op = c .before .before .before .before .before .op-in .result in
     let n : ℕ = c .before .before .before .before .turn-in .result in
     let r : Effect = c .before .before .before .loudly .result in
@@ -721,55 +766,9 @@ loop-less-8 c =
     let acting = c .before .before .follows .ensures ∙ (λ i. follows (is-r i .ending) m (is-w i) (seen i .position)) in
     let is-fine = ap (λ (y : Effect). isFine (y .ending)) (sym is-r) ∙ sym (c .before .is-fine .ensures) in
     let moved : Moved = record { acting = c .before .before .follows .result; scene = s } in
-    let done : moved ≡ act m (deed .left) op s =
-    (λ i. record { acting = acting i; scene = s }) ∙ sym (loud-fails op s m (deed .left) is-loud (is-fine ∙ c .if10 .left)) in
-    let less = acted-less (a .t1) list (a .world) (l .threads) (l .objects) (l .turn) (l .asked) (l .acting) (l .at) (l .inv .0) deed (c .before .before .before .before .before .before .before .before .before .before .before .before .before .before .before .before .acting2 .given .1) long o about e out moved done in
-    omega (arith, less)
-
-loop-again-8 : tie.Need-loop-again-8 Inv-loop μ-loop
-loop-again-8 c =
-    let l = c .before .before .before .before .before .before .before .before .before .before .before .before .before .before .before .before .before .before .loop in
-    let a = c .before .before .before .before .before .before .before .before .before .before .before .before .before .before .before .before .before .before .before .before .before .before .args in
-    let list : List ℕ = a .list .now in
-    let ops : List Op = a .t1 .ops in
-    let long : length ops ≡ 192 = sym (length-map ops _) ∙ c .before .before .before .before .before .before .before .before .before .before .before .before .before .before .before .before .before .before .before .before .before .before .good .0 .1 .1 .1 .1 .0 .1 .0 .1 in
-    let deed : Deed = c .before .before .before .before .before .before .before .before .before .before .before .before .before .before .before .before .acting2 .given .0 .0 in
-    let m = deed .moves in
-    let op = deed .op in
-    let ts : List Thread = l .threads in
-    let six : length ts ≡ 6 = l .inv .1 in
-    let t : ThreadId = c .before .before .before .before .before .before .before .before .before .before .before .before .before .who3 .result in
-    let x : Thread = c .before .before .before .before .before .before .before .before .before .before .before .if6 .x in
-    let found : x ≡ threadAt ts t =
-    elim (c .before .before .before .before .before .before .before .before .before .before .before .if6 .came) [
-      | inl w ↦ w .2 ∙ getD-within ts (t .0) _ _ (omega (arith, w .0 .taken, six))
-      | inr w ↦ w .2 ∙ w .1 .ensures ∙ sym (List·getD-eq-default ts _ (omega (arith, w .0 .left, six)))
-    ] in
-    let seen : x ≡ threadAt ts (who (m)) = found ∙ ap (threadAt ts) (c .before .before .before .before .before .before .before .before .before .before .before .before .before .who3 .ensures) in
-    let objects : List Entry = l .objects in
-    let all : length objects ≡ 16 = l .inv .0 .all in
-    let o : ObjectId = c .before .before .before .before .before .before .before .before .before .before .subject .result in
-    let about : o ≡ subject ts m op = c .before .before .before .before .before .before .before .before .before .before .subject .ensures ∙ ap (λ (y : Thread). subjectIn (y .phase) m op) seen ∙ sym (subject-in ts m op) in
-    let e : Entry = c .before .before .before .before .before .before .before .before .if7 .e in
-    let out : e ≡ entryAt objects o =
-    elim (c .before .before .before .before .before .before .before .before .if7 .came) [
-      | inl w ↦ w .2 ∙ taken-there objects (o .0) _ (omega (arith, w .0 .taken))
-      | inr w ↦ w .2 ∙ w .1 .ensures ∙ taken-none objects (o .0) (omega (arith, w .0 .left))
-    ] in
-    let s : Scene = record { entry = e; threads = ts; turn = l .turn; asked = l .asked } in
-    let is-loud = ap (λ (y : Thread). isQuiet (y .phase) m (deed .left) (op .call)) (sym seen) ∙ sym (c .before .before .before .before .before .before .before .is-quiet .ensures) ∙ c .before .before .before .before .before .before .if8 .left in
-    let w : Op = c .before .before .before .before .before .op-in .result in
-    let n : ℕ = c .before .before .before .before .turn-in .result in
-    let r : Effect = c .before .before .before .loudly .result in
-    let is-w : w ≡ work op s m = c .before .before .before .before .before .op-in .ensures ∙ ap (λ (y : Thread). opIn (y .phase) m op) seen in
-    let is-n : n ≡ turnIn m (l .turn) = c .before .before .before .before .turn-in .ensures in
-    let is-r : r ≡ doneBy op s m (work op s m) = c .before .before .before .loudly .ensures ∙ (λ i. loudly m (is-w i) (is-n i) e ts) in
-    let acting = c .before .before .follows .ensures ∙ (λ i. follows (is-r i .ending) m (is-w i) (seen i .position)) in
-    let is-fine = ap (λ (y : Effect). isFine (y .ending)) (sym is-r) ∙ sym (c .before .is-fine .ensures) in
-    let moved : Moved = record { acting = c .before .before .follows .result; scene = s } in
-    let done : moved ≡ act m (deed .left) op s =
-    (λ i. record { acting = acting i; scene = s }) ∙ sym (loud-fails op s m (deed .left) is-loud (is-fine ∙ c .if10 .left)) in
-    (acted (a .t1) list (a .world) (l .threads) (l .objects) (l .turn) (l .asked) (l .acting) (l .at) (l .inv .0) deed (c .before .before .before .before .before .before .before .before .before .before .before .before .before .before .before .before .acting2 .given .1) long o about e out moved done objects (sym (ap (set objects (o .0)) out ∙ set-getD objects (o .0) _)), six)
+    let done : moved ≡ act m left op s =
+    (λ i. record { acting = acting i; scene = s }) ∙ sym (loud-fails op s m left is-loud (is-fine ∙ c .if10 .left)) in
+    (acted (a .t1) list (a .world) (l .threads) (l .objects) (l .turn) (l .asked) (l .acting) (l .at) (l .inv .0) m (c .before .before .before .before .before .before .before .before .before .before .before .before .before .before .before .before .before .before .acting .given .1) long left is-left op is-op o about e out (moved) done objects (sym (ap (set objects (o .0)) out ∙ set-getD objects (o .0) _)), six)
 
 enum-told-2 : tie.Need-enum-told-2 Inv-loop μ-loop
 enum-told-2 c = search needs
@@ -777,16 +776,16 @@ enum-told-2 c = search needs
 after-requires : tie.Need-after-requires Inv-loop μ-loop
 after-requires c κs = search needs
 
-loop-less-9 : tie.Need-loop-less-9 Inv-loop μ-loop
-loop-less-9 c =
+loop-less-7 : tie.Need-loop-less-7 Inv-loop μ-loop
+loop-less-7 c =
     let l = c .before .before .before .loop in
     let a = c .before .before .before .before .before .before .before .args in
     let list : List ℕ = a .list .now in
     let less = turn-over-less (a .t1) list (a .world) (l .threads) (l .objects) (l .turn) (l .asked) (l .acting) (l .at) (l .inv .0) (c .before .enum-told2 .given .1) _ (c .after2 .ensures) in
     omega (arith, less)
 
-loop-again-9 : tie.Need-loop-again-9 Inv-loop μ-loop
-loop-again-9 c =
+loop-again-7 : tie.Need-loop-again-7 Inv-loop μ-loop
+loop-again-7 c =
     let l = c .before .before .before .loop in
     let a = c .before .before .before .before .before .before .before .args in
     let list : List ℕ = a .list .now in
@@ -798,30 +797,30 @@ enum-told-3 c = search needs
 leak-check-requires : tie.Need-leak-check-requires Inv-loop μ-loop
 leak-check-requires c κs = search needs
 
-loop-less-10 : tie.Need-loop-less-10 Inv-loop μ-loop
-loop-less-10 c =
+loop-less-8 : tie.Need-loop-less-8 Inv-loop μ-loop
+loop-less-8 c =
     let l = c .before .before .before .loop in
     let a = c .before .before .before .before .before .before .before .args in
     let list : List ℕ = a .list .now in
     let less = all-ended-less (a .t1) list (a .world) (l .threads) (l .objects) (l .turn) (l .asked) (l .acting) (l .at) (l .inv .0) (c .before .enum-told3 .given .1) (c .leak-check .result) in
     omega (arith, less)
 
-loop-again-10 : tie.Need-loop-again-10 Inv-loop μ-loop
-loop-again-10 c =
+loop-again-8 : tie.Need-loop-again-8 Inv-loop μ-loop
+loop-again-8 c =
     let l = c .before .before .before .loop in
     let a = c .before .before .before .before .before .before .before .args in
     let list : List ℕ = a .list .now in
     (all-ended (a .t1) list (a .world) (l .threads) (l .objects) (l .turn) (l .asked) (l .acting) (l .at) (l .inv .0) (c .before .enum-told3 .given .1) _ (c .leak-check .ensures), l .inv .1)
 
-enum-known-acting-3 : tie.Need-enum-known-acting-3 Inv-loop μ-loop
-enum-known-acting-3 c = search needs
+enum-known-acting-2 : tie.Need-enum-known-acting-2 Inv-loop μ-loop
+enum-known-acting-2 c = search needs
 
 returns-3 : tie.Need-returns-3 Inv-loop μ-loop
 returns-3 c =
     let l = c .before .before .before .before .loop in
     let a = c .before .before .before .before .before .before .before .before .args in
     let list : List ℕ = a .list .now in
-    surplus-left (a .t1) list (a .world) (l .threads) (l .objects) (l .turn) (l .asked) (l .acting) (l .at) (l .inv .0) _ (c .before .before .acting3 .given .1) (c .if12 .taken)
+    surplus-left (a .t1) list (a .world) (l .threads) (l .objects) (l .turn) (l .asked) (l .acting) (l .at) (l .inv .0) _ (c .before .before .acting2 .given .1) (c .if12 .taken)
 
 came-to-requires-2 : tie.Need-came-to-requires-2 Inv-loop μ-loop
 came-to-requires-2 c κs = search needs
@@ -831,7 +830,7 @@ returns-4 c =
     let l = c .before .before .before .before .before .loop in
     let a = c .before .before .before .before .before .before .before .before .before .args in
     let list : List ℕ = a .list .now in
-    c .came-to2 .ensures ∙ verdict-reached (a .t1) list (a .world) (l .threads) (l .objects) (l .turn) (l .asked) (l .acting) (l .at) (l .inv .0) _ (c .before .before .before .acting3 .given .1) (c .before .if12 .left)
+    c .came-to2 .ensures ∙ verdict-reached (a .t1) list (a .world) (l .threads) (l .objects) (l .turn) (l .asked) (l .acting) (l .at) (l .inv .0) _ (c .before .before .before .acting2 .given .1) (c .before .if12 .left)
 
 pub run-spec : {M : Type 1} → statement M
 run-spec =
@@ -864,35 +863,26 @@ run-spec =
     place-of-requires
     mul-op
     element-copy-out-op
-    does-requires
-    loop-less-2
-    loop-again-2
     no-op-requires
-    does-requires-2
-    loop-less-3
-    loop-again-3
-    enum-known-acting-2
-    who-requires-3
-    cast-i-3
-    mul-x-3
-    array-copy-out-x-3
-    absent-requires-3
     subject-requires
     cast-o
+    is-quiet-requires
     mul-e
     array-copy-out-e
-    absent-requires-4
-    is-quiet-requires
+    absent-requires-3
     is-begun-requires
     is-barred-requires
     asks-requires
     quietly-requires
     mul-threads
     array-set-from-threads
-    loop-less-4
-    loop-again-4
-    loop-less-5
-    loop-again-5
+    loop-less-2
+    loop-again-2
+    loop-less-3
+    loop-again-3
+    mul-e-2
+    array-copy-out-e-2
+    absent-requires-4
     op-in-requires
     turn-in-requires
     loudly-requires
@@ -902,21 +892,21 @@ run-spec =
     asked-in-requires
     mul-objects
     array-set-from-objects
+    loop-less-4
+    loop-again-4
+    loop-less-5
+    loop-again-5
     loop-less-6
     loop-again-6
-    loop-less-7
-    loop-again-7
-    loop-less-8
-    loop-again-8
     enum-told-2
     after-requires
-    loop-less-9
-    loop-again-9
+    loop-less-7
+    loop-again-7
     enum-told-3
     leak-check-requires
-    loop-less-10
-    loop-again-10
-    enum-known-acting-3
+    loop-less-8
+    loop-again-8
+    enum-known-acting-2
     returns-3
     came-to-requires-2
     returns-4)

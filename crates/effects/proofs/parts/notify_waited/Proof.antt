@@ -1,0 +1,15 @@
+-- `parts::notify_waited` meets its contract.
+use borrow.Author.Needs.{needs}
+use Rattle.effects.proofs.parts.notify_waited.Statement.{statement}
+use Rattle.effects.proofs.parts.notify_waited.Tie as tie
+
+misuse-unless-requires : tie.Need-misuse-unless-requires
+misuse-unless-requires c κs = search needs
+
+returns : tie.Need-returns
+returns c =
+    let a = c .before .before .before .args in
+    λ i. record { ending = c .misuse-unless .ensures i; state = a .r .state; threads = a .r .threads }
+
+pub notify-waited-spec : {M : Type 1} → statement M
+notify-waited-spec = tie.close (tie.spec misuse-unless-requires returns)
