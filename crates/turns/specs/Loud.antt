@@ -22,7 +22,8 @@ use Rattle.rules.specs.declared.answer.Spot.{Spot}
 use Rattle.rules.specs.declared.world.Asked.{Asked}
 use Rattle.rules.specs.declared.world.Asked.the-variants as asked
 use Rattle.rules.specs.declared.world.Effect.{Effect}
-use Rattle.rules.specs.Ground.{threadAt, putThread, setRunnable}
+use lib.Seq.{set-getD}
+use Rattle.rules.specs.Ground.{withPosition, threadAt, putThread, setRunnable}
 use Rattle.rules.specs.Object.{putNotify}
 use Rattle.rules.specs.Notify as notify
 use Rattle.rules.specs.Announce.{isFree}
@@ -86,14 +87,18 @@ isWait (Channel c) = false
 isWait (Arc c) = false
 isWait (Cell c) = false
 
-unfoldable pub afterwards : Call → ThreadId → List Thread → List Thread
-afterwards c t ts = elim (isWait c) [ true ↦ ts | false ↦ advance t ts ]
+-- the thread that acted, after it
+abbrev one-done : Thread → Thread
+one-done x = withPosition x (risen 255 (x .position))
 
-unfoldable pub settledBy : Move → Call → List Thread → List Thread
-settledBy (Begins t) c ts = afterwards c t ts
-settledBy (Answers t b) c ts = ts
-settledBy (Goes t p) c ts = advance t ts
-settledBy (Waits t o) c ts = ts
+unfoldable pub afterwards : Call → Thread → Thread
+afterwards c x = elim (isWait c) [ true ↦ x | false ↦ one-done x ]
+
+unfoldable pub settledBy : Move → Call → Thread → Thread
+settledBy (Begins t) c x = afterwards c x
+settledBy (Answers t b) c x = x
+settledBy (Goes t p) c x = one-done x
+settledBy (Waits t o) c x = x
 
 -- who acts after it
 abbrev pub isFine : Ending → Bool
@@ -141,11 +146,11 @@ failed-fine ending.NoRoom spot z h = absurd (false≢true h)
 failed-fine (ending.Race x) spot z h = absurd (false≢true h)
 
 thereafter-is : (c : Call) (t : ThreadId) (p : ℕ) (s : Scene)
-    → thereafter c t p s ≡ record { acting = nextOf c t (risen 255 p); scene = with s (s .entry) (afterwards c t (s .threads)) }
-unfolding thereafter nextOf afterwards
+    → thereafter c t p s ≡ record { acting = nextOf c t (risen 255 p); scene = with s (s .entry) (putThread (s .threads) t (afterwards c (threadAt (s .threads) t))) }
+unfolding thereafter nextOf afterwards advance
 thereafter-is (Mutex c) t p s = refl
 thereafter-is (RwLock c) t p s = refl
-thereafter-is (Condvar (condvar-call.Wait m)) t p s = refl
+thereafter-is (Condvar (condvar-call.Wait m)) t p s = ap (λ (ts : List Thread). record { acting = Moves (Waits t m); scene = with s (s .entry) ts }) (sym (set-getD (s .threads) (t .0) _))
 thereafter-is (Condvar condvar-call.NotifyOne) t p s = refl
 thereafter-is (Condvar condvar-call.NotifyAll) t p s = refl
 thereafter-is (Notify c) t p s = refl
@@ -165,7 +170,7 @@ module _ (op : Op) (s : Scene) where
   doneBy m w = loudly m w (turnIn m (s .turn)) (s .entry) (s .threads)
 
   abbrev pub sceneBy : Move → Op → Effect → Scene
-  sceneBy m w r = record { entry = r .entry; threads = settledBy m (w .call) (r .threads); turn = turnIn m (s .turn); asked = askedIn m (s .asked) }
+  sceneBy m w r = record { entry = r .entry; threads = putThread (r .threads) (who m) (settledBy m (w .call) (threadAt (r .threads) (who m))); turn = turnIn m (s .turn); asked = askedIn m (s .asked) }
 
   operation-fine : (t : ThreadId) (w : Op) → isFine (doneBy (Begins t) w .ending) ≡ true
       → operation t w s ≡ record { acting = follows (doneBy (Begins t) w .ending) (Begins t) w (position (Begins t)); scene = sceneBy (Begins t) w (doneBy (Begins t) w) }
@@ -204,7 +209,7 @@ module _ (op : Op) (s : Scene) where
 
   free-fine : (t : ThreadId) (p : ℕ) → isFine (doneBy (Goes t p) op .ending) ≡ true
       → step.free t p op s ≡ record { acting = follows (doneBy (Goes t p) op .ending) (Goes t p) op (position (Goes t p)); scene = sceneBy (Goes t p) op (doneBy (Goes t p) op) }
-  unfolding step.free follows loudly settledBy
+  unfolding step.free follows loudly settledBy advance
   free-fine t p h =
       failing-fine _ t (op .object) s _ h
       ∙ ap (λ (a : Acting). record { acting = a; scene = sceneBy (Goes t p) op (doneBy (Goes t p) op) }) (sym (failed-fine _ _ _ h))
@@ -214,14 +219,18 @@ module _ (op : Op) (s : Scene) where
   unfolding step.free follows loudly
   free-fails t p h = failing-not _ t (op .object) s _ _ h
 
+  -- a step after which the thread that acted stays as it is
+  abbrev unturned : Move → List Thread → Moved
+  unturned m ts = record { acting = Over; scene = record { entry = doneBy m (work m) .entry; threads = ts; turn = turnIn m (s .turn); asked = askedIn m (s .asked) } }
+
   pub loud-fine : (m : Move) (left : Bool) → isQuiet (threadAt (s .threads) (who m) .phase) m left (op .call) ≡ false → isFine (doneBy m (work m) .ending) ≡ true
       → act m left op s ≡ record { acting = follows (doneBy m (work m) .ending) m (work m) (position m); scene = sceneBy m (work m) (doneBy m (work m)) }
   unfolding act follows loudly settledBy step.answers step.spurious step.waits
   loud-fine (Begins t) left q h = begins-fine t (threadAt (s .threads) t .phase) q h
-  loud-fine (Answers t true) left q h = refl
+  loud-fine (Answers t true) left q h = ap (unturned (Answers t true)) (sym (set-getD (doneBy (Answers t true) (work (Answers t true)) .threads) (t .0) _))
   loud-fine (Answers t false) left q h = absurd (false≢true (sym q))
   loud-fine (Goes t p) left q h = goes-free t p left q ∙ free-fine t p h
-  loud-fine (Waits t o) left q h = refl
+  loud-fine (Waits t o) left q h = ap (unturned (Waits t o)) (sym (set-getD (doneBy (Waits t o) (work (Waits t o)) .threads) (t .0) _))
 
   pub loud-fails : (m : Move) (left : Bool) → isQuiet (threadAt (s .threads) (who m) .phase) m left (op .call) ≡ false → isFine (doneBy m (work m) .ending) ≡ false
       → act m left op s ≡ record { acting = follows (doneBy m (work m) .ending) m (work m) (position m); scene = s }

@@ -29,12 +29,21 @@ use Rattle.turns.specs.Step.{subject, act}
 use Rattle.turns.specs.Run.{placeOf, leftOf, opOf, isAllowed, chosen, after, decided, rest, Running, weight, ranOf}
 use Rattle.turns.specs.RunLaws.{rest-end, rest-refused, rest-chosen, rest-over, rest-all-ended, rest-verdict, rest-surplus, rest-act, act-lighter, after-light, chosen-weight}
 
-module _ (table : Table) (list : List ℕ) (given : World) where
+-- what the loop finds of a move: its operation, if one is left, and the object that it is about
+pub record Found (table : Table) (ts : List Thread) (m : Move) : Type 0 where
+  pub left : Bool
+  pub is-left : left ≡ leftOf table ts m
+  pub op : Op
+  pub is-op : op ≡ opOf table ts m
+  pub object : ObjectId
+  pub is-object : object ≡ subject ts m op
+
+module _ {table : Table} {list : List ℕ} {given : World} where
   pub begun : length (given .objects) ≡ 16 → Running table list given (given .threads) (given .objects) (given .turn) (given .asked) Nobody 0
   unfolding rest decided outcomeOf
   begun l = record { judged = refl; all = l }
 
-  module _ (ts : List Thread) (es : List Entry) (n : ℕ) (who : Asked) (acting : Acting) (at : ℕ) (r : Running table list given ts es n who acting at) where
+  module _ {ts : List Thread} {es : List Entry} {n : ℕ} {who : Asked} {acting : Acting} {at : ℕ} (r : Running table list given ts es n who acting at) where
     abbrev w : World
     w = record { threads = ts; objects = es; turn = n; asked = who }
 
@@ -68,39 +77,38 @@ module _ (table : Table) (list : List ℕ) (given : World) where
         → 2000 * (length list - (at + 1)) + weight (Moves m) < 2000 * (length list - at) + weight acting
     decision-less h m c = let e : weight (Moves m) ≡ 1000 = ap (λ (x : Move). weight (Moves x)) c ∙ chosen-weight who (getD list at 0) in omega (arith, h, e)
 
-    module _ (m : Move) (e : acting ≡ Moves m) (l : length (table .ops) ≡ 192) (b : Bool) (isLeft : b ≡ leftOf table ts m) (op : Op) (isOp : op ≡ opOf table ts m)
-        (o : ObjectId) (about : o ≡ subject ts m op) (it : Entry) (taken : it ≡ entryAt es o) (x : Moved)
-        (done : x ≡ act m b op (record { entry = it; threads = ts; turn = n; asked = who })) where
+    module _ (m : Move) (e : acting ≡ Moves m) (l : length (table .ops) ≡ 192) (f : Found table ts m) (it : Entry) (taken : it ≡ entryAt es (f .object)) (x : Moved)
+        (done : x ≡ act m (f .left) (f .op) (record { entry = it; threads = ts; turn = n; asked = who })) where
       abbrev seen : Entry → Scene
       seen y = record { entry = y; threads = ts; turn = n; asked = who }
 
-      acts : x ≡ act m b op (seen (entryAt es (subject ts m op)))
-      acts = done ∙ ap (λ (y : Entry). act m b op (seen y)) (taken ∙ ap (entryAt es) about)
+      acts : x ≡ act m (f .left) (f .op) (seen (entryAt es (subject ts m (f .op))))
+      acts = done ∙ ap (λ (y : Entry). act m (f .left) (f .op) (seen y)) (taken ∙ ap (entryAt es) (f .is-object))
 
-      pub acted : (fs : List Entry) → fs ≡ putEntry es o (x .scene .entry)
+      pub acted : (fs : List Entry) → fs ≡ putEntry es (f .object) (x .scene .entry)
           → Running table list given (x .scene .threads) fs (x .scene .turn) (x .scene .asked) (x .acting) at
       acted fs q =
           record {
             judged =
                 now-left (Moves m) e
-                ∙ rest-act table list at w m b op x l isLeft isOp acts
+                ∙ rest-act table list at w m (f .left) (f .op) x l (f .is-left) (f .is-op) acts
                 ∙ (λ i.
                 rest table list at (x .acting)
                 (record {
                   threads = x .scene .threads;
-                  objects = (ap (λ (p : ObjectId). putEntry es p (x .scene .entry)) (sym about) ∙ sym q) i;
+                  objects = (ap (λ (p : ObjectId). putEntry es p (x .scene .entry)) (sym (f .is-object)) ∙ sym q) i;
                   turn = x .scene .turn;
                   asked = x .scene .asked;
                 }));
-            all = ap (λ (gs : List Entry). length gs) q ∙ length-set es (o .0) (x .scene .entry) ∙ r .all;
+            all = ap (λ (gs : List Entry). length gs) q ∙ length-set es (f .object .0) (x .scene .entry) ∙ r .all;
           }
 
       pub acted-less : weight (x .acting) < weight acting
       acted-less =
           let p : weight acting ≡ weight (Moves m) = ap weight e in
-          let q : weight (x .acting) ≡ weight (act m b op (seen it) .acting) = ap (λ (y : Moved). weight (y .acting)) done in
-          let f = act-lighter table ts m b op (seen it) isLeft in
-          omega (arith, p, q, f)
+          let q : weight (x .acting) ≡ weight (act m (f .left) (f .op) (seen it) .acting) = ap (λ (y : Moved). weight (y .acting)) done in
+          let h = act-lighter table ts m (f .left) (f .op) (seen it) (f .is-left) in
+          omega (arith, p, q, h)
 
     pub turn-over : acting ≡ Over → (a : Acting) → a ≡ after ts → Running table list given ts es n who a at
     turn-over e a f =

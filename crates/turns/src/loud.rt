@@ -9,6 +9,7 @@ use clocks::THREADS;
 use clocks::ThreadId;
 use effects::effect::effect;
 use effects::turn::advance;
+use effects::turn::advanced;
 use effects::turn::one_more;
 use effects::turn::operate;
 use effects::turn::wait;
@@ -130,23 +131,24 @@ fn is_wait(call: Call) -> bool
 }
 
 // An announced operation is done then, but for a wait.
-fn afterwards(call: Call, t: ThreadId, threads: [Thread; THREADS]) -> [Thread; THREADS]
-    ensures { λ r. ⌜ r ≡ afterwards call t threads ⌝ }
+fn afterwards(call: Call, x: Thread) -> Thread
+    ensures { λ r. ⌜ r ≡ afterwards call x ⌝ }
 {
     if is_wait(call) {
-        return threads;
+        return x;
     }
-    advance(t, threads)
+    advanced(x)
 }
 
-pub fn settled(m: Move, call: Call, threads: [Thread; THREADS]) -> [Thread; THREADS]
-    ensures { λ r. ⌜ r ≡ settledBy m call threads ⌝ }
+// The thread that acted, after a step that was fine.
+pub fn settled(m: Move, call: Call, x: Thread) -> Thread
+    ensures { λ r. ⌜ r ≡ settledBy m call x ⌝ }
 {
     match m {
-        Move::Begins(t) => afterwards(call, t, threads),
-        Move::Answers(_, _) => threads,
-        Move::Goes(t, _) => advance(t, threads),
-        Move::Waits(_, _) => threads,
+        Move::Begins(_) => afterwards(call, x),
+        Move::Answers(_, _) => x,
+        Move::Goes(_, _) => advanced(x),
+        Move::Waits(_, _) => x,
     }
 }
 

@@ -197,9 +197,13 @@ pub fn run(table: Table, world: World, list: &[u8]) -> Ran
                     acting = follows(ending, m, work, x.position);
                     if is_fine(ending) {
                         let entry = r.entry;
-                        let after = r.threads;
-                        let work_call = work.call;
-                        threads = settled(m, work_call, after);
+                        threads = r.threads;
+                        if i < THREADS {
+                            let work_call = work.call;
+                            let before = threads[i];
+                            let y = settled(m, work_call, before);
+                            threads[i] = y;
+                        }
                         turn = n;
                         asked = asked_in(m, asked);
                         if o < OBJECTS {

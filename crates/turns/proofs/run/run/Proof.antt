@@ -1,38 +1,37 @@
 -- `run::run` meets its contract: what is left of the list's judgement stays the same from step to step.
 use mathlib.Core.Path.{_≡_, refl, sym, _∙_, ap, subst}
+use mathlib.Core.Bool.{Bool, false}
 use mathlib.Core.List.{List}
 use mathlib.Core.Logic.{inl, inr}
-use Prim.Native.Nat.{ℕ}
+use Prim.Native.Nat.{ℕ, _+_, _-_, _*_, _<_}
 use native.Mathlib.Omega.{arith}
-use lib.Seq.{set-out}
+use lib.Dec.{ltb}
+use lib.ListN.{length, getD, set, length-set, length-map, List·getD-eq-default}
+use lib.Seq.{set-getD, set-out}
 use borrow.Author.Tests.{not-true, not-false}
-use Rattle.rules.specs.declared.object.ObjectId.{ObjectId}
-use Rattle.rules.specs.declared.object.Entry.{Entry}
-use Rattle.rules.specs.declared.table.Op.{Op}
-use Rattle.rules.specs.Object.{entryAt}
-use lib.ListN.{length-map}
-use Rattle.turns.specs.Running.{begun, ran-out, not-allowed, surplus-left, verdict-reached, decision, decision-less, acted, acted-less, turn-over, turn-over-less, all-ended, all-ended-less, taken-there, taken-none, op-there, op-none}
-use Prim.Native.Nat.{_+_, _-_, _*_}
-use lib.ListN.{length}
-use mathlib.Core.Bool.{Bool}
-use lib.ListN.{getD, set, length-set, List·getD-eq-default}
-use lib.Seq.{set-getD}
+use borrow.Author.Needs.{needs}
 use Rattle.clocks.specs.Lists.{getD-within}
 use Rattle.clocks.specs.declared.thread.ThreadId.{ThreadId}
+use Rattle.rules.specs.declared.object.ObjectId.{ObjectId}
+use Rattle.rules.specs.declared.object.Entry.{Entry}
 use Rattle.rules.specs.declared.thread.Thread.{Thread}
-use Rattle.rules.specs.Ground.{threadAt}
+use Rattle.rules.specs.declared.table.Op.{Op}
+use Rattle.rules.specs.declared.table.Table.{Table}
+use Rattle.rules.specs.declared.world.Effect.{Effect}
+use Rattle.rules.specs.declared.world.World.{World}
+use Rattle.rules.specs.Ground.{threadAt, putThread}
+use Rattle.rules.specs.Object.{entryAt, putEntry}
 use Rattle.rules.specs.Announce.{asks}
+use Rattle.turns.specs.declared.step.Acting.the-variants.{Moves}
+use Rattle.turns.specs.declared.step.Move.{Move}
+use Rattle.turns.specs.declared.step.Moved.{Moved}
 use Rattle.turns.specs.declared.step.Scene.{Scene}
 use Rattle.turns.specs.declared.quiet.Quiet.{Quiet}
-use Rattle.rules.specs.declared.world.Effect.{Effect}
-use Rattle.turns.specs.declared.step.Moved.{Moved}
-use Rattle.turns.specs.Step.{subject, act}
-use Rattle.turns.specs.Loud.{opIn, turnIn, loudly, settledBy, isFine, follows, work, doneBy, loud-fine, loud-fails}
-use lib.Dec.{ltb}
-use Rattle.turns.specs.Run.{placeOf, leftOf, opOf, chosen}
+use Rattle.turns.specs.Step.{act}
 use Rattle.turns.specs.Quiet.{who, isBegun, subjectIn, subject-in, placeIn, place-in, allowedIn, allowed-in, isQuiet, isBarred, quietly, stayed, quiet-law}
-use borrow.Author.Needs.{needs}
-use Rattle.turns.specs.Run.{Running, weight}
+use Rattle.turns.specs.Loud.{opIn, turnIn, loudly, settledBy, isFine, follows, work, doneBy, loud-fine, loud-fails}
+use Rattle.turns.specs.Run.{placeOf, isAllowed, chosen, Running, weight}
+use Rattle.turns.specs.Running.{begun, ran-out, not-allowed, surplus-left, verdict-reached, decision, decision-less, Found, acted, acted-less, turn-over, turn-over-less, all-ended, all-ended-less, taken-there, taken-none, op-there, op-none}
 use Rattle.turns.proofs.run.run.Statement.{statement}
 use Rattle.turns.proofs.run.run.Tie as tie
 
@@ -44,13 +43,239 @@ abbrev μ-loop : tie.MeasureT-loop
 μ-loop world list table threads₀ objects₀ turn₀ asked₀ acting₀ at₀ threads objects turn asked acting at =
     2000 * (length list - at) + weight acting
 
+-- what the loop was given, and where it stands
+module _ (c : tie.At-loop Inv-loop μ-loop) where
+  abbrev table : Table
+  table = c .before .before .before .before .args .t1
+
+  abbrev list : List ℕ
+  list = c .before .before .before .before .args .list .now
+
+  abbrev given : World
+  given = c .before .before .before .before .args .world
+
+  abbrev ts : List Thread
+  ts = c .loop .threads
+
+  abbrev es : List Entry
+  es = c .loop .objects
+
+  abbrev runs : Running table list given ts es (c .loop .turn) (c .loop .asked) (c .loop .acting) (c .loop .at)
+  runs = c .loop .inv .0
+
+  six : length ts ≡ 6
+  six = c .loop .inv .1
+
+  long : length (table .ops) ≡ 192
+  long = sym (length-map (table .ops) _) ∙ c .before .before .before .before .good .0 .1 .1 .1 .1 .0 .1 .0 .1
+
+-- whether a decision is allowed
+module _ (c : tie.After-is-allowed Inv-loop μ-loop) where
+  abbrev wanted : tie.At-loop Inv-loop μ-loop
+  wanted = c .before .before .before .before .before .before .before .before .before
+
+  abbrev d : ℕ
+  d = getD (list wanted) (wanted .loop .at) 0
+
+  allowed : isAllowed (wanted .loop .asked) (ts wanted) d ≡ c .is-allowed .result
+  allowed =
+      let t : ThreadId = c .before .before .before .who .result in
+      let x : Thread = c .before .if2 .x in
+      let found : x ≡ threadAt (ts wanted) t =
+      elim (c .before .if2 .came) [
+        | inl w ↦ w .2 ∙ getD-within (ts wanted) (t .0) _ _ (omega (arith, w .0 .taken, six wanted))
+        | inr w ↦ w .2 ∙ w .1 .ensures ∙ sym (List·getD-eq-default (ts wanted) _ (omega (arith, w .0 .left, six wanted)))
+      ] in
+      let seen : x ≡ threadAt (ts wanted) (who (chosen (wanted .loop .asked) d)) = found ∙ ap (threadAt (ts wanted)) (c .before .before .before .who .ensures ∙ ap who (c .before .before .before .before .chosen .ensures)) in
+      allowed-in (wanted .loop .asked) (ts wanted) d ∙ ap (λ (y : Thread). allowedIn (wanted .loop .asked) (y .state) d) (sym seen) ∙ sym (c .is-allowed .ensures)
+
+-- a move, its thread, and what it is about
+module _ (c : tie.After-is-quiet Inv-loop μ-loop) where
+  abbrev here : tie.At-loop Inv-loop μ-loop
+  here = c .before .before .before .before .before .before .before .before .before .before .before .before
+
+  abbrev m : Move
+  m = c .before .before .before .before .before .before .before .before .before .before .acting .given .0 .0
+
+  abbrev t : ThreadId
+  t = c .before .before .before .before .before .before .before .who2 .result
+
+  seen : c .before .before .before .before .before .if4 .x ≡ threadAt (ts here) (who m)
+  seen =
+      let found : c .before .before .before .before .before .if4 .x ≡ threadAt (ts here) t =
+      elim (c .before .before .before .before .before .if4 .came) [
+        | inl w ↦ w .2 ∙ getD-within (ts here) (t .0) _ _ (omega (arith, w .0 .taken, six here))
+        | inr w ↦ w .2 ∙ w .1 .ensures ∙ sym (List·getD-eq-default (ts here) _ (omega (arith, w .0 .left, six here)))
+      ] in
+      found ∙ ap (threadAt (ts here)) (c .before .before .before .before .before .before .before .who2 .ensures)
+
+  abbrev place : ℕ
+  place = c .before .before .before .before .place-of .result
+
+  is-place : place ≡ placeOf (table here .counts) (ts here) m
+  is-place = c .before .before .before .before .place-of .ensures ∙ ap (λ (y : Thread). placeIn (table here .counts) (y .position) m) seen ∙ sym (place-in (table here .counts) (ts here) m)
+
+  abbrev about : Found (table here) (ts here) m
+  about =
+      record {
+        left = ltb place 192;
+        is-left = ap (λ (j : ℕ). ltb j 192) is-place;
+        op = c .before .before .before .if5 .op;
+        is-op =
+            elim (c .before .before .before .if5 .came) [
+              | inl w ↦ w .2 ∙ op-there (table here) (ts here) m place is-place (long here) _ (w .0 .taken)
+              | inr w ↦ w .2 ∙ w .1 .ensures ∙ op-none (table here) (ts here) m place is-place (long here) (w .0 .left)
+            ];
+        object = c .before .before .subject .result;
+        is-object = c .before .before .subject .ensures ∙ ap (λ (y : Thread). subjectIn (y .phase) m (c .before .before .before .if5 .op)) seen ∙ sym (subject-in (ts here) m (c .before .before .before .if5 .op));
+      }
+
+  abbrev sceneWith : Entry → Scene
+  sceneWith e = record { entry = e; threads = ts here; turn = here .loop .turn; asked = here .loop .asked }
+
+  told : isQuiet (threadAt (ts here) (who m) .phase) m (about .left) (about .op .call) ≡ c .is-quiet .result
+  told = ap (λ (y : Thread). isQuiet (y .phase) m (about .left) (about .op .call)) (sym seen) ∙ sym (c .is-quiet .ensures)
+
+  -- what an act leaves of the run, and that fewer may follow
+  module _ (e : Entry) (out : e ≡ entryAt (es here) (about .object)) (x : Moved) (done : x ≡ act m (about .left) (about .op) (sceneWith e)) where
+    less : weight (x .acting) < weight (here .loop .acting)
+    less = acted-less (runs here) m (c .before .before .before .before .before .before .before .before .before .before .acting .given .1) (long here) about e out x done
+
+    next : (fs : List Entry) → fs ≡ putEntry (es here) (about .object) (x .scene .entry)
+        → Running (table here) (list here) (given here) (x .scene .threads) fs (x .scene .turn) (x .scene .asked) (x .acting) (here .loop .at)
+    next = acted (runs here) m (c .before .before .before .before .before .before .before .before .before .before .acting .given .1) (long here) about e out x done
+
+    -- a step that leaves its object as it was
+    same : x .scene .entry ≡ e → Running (table here) (list here) (given here) (x .scene .threads) (es here) (x .scene .turn) (x .scene .asked) (x .acting) (here .loop .at)
+    same h = next (es here) (sym (ap (putEntry (es here) (about .object)) (h ∙ out) ∙ set-getD (es here) (about .object .0) _))
+
+-- a step that leaves its object as it is
+module _ (c : tie.After-y Inv-loop μ-loop) where
+  abbrev calm : tie.After-is-quiet Inv-loop μ-loop
+  calm = c .before .before .before .before .before .before .before
+
+  abbrev e : Entry
+  e = c .before .before .before .before .before .if7 .e
+
+  out : e ≡ entryAt (es (here calm)) (about calm .object)
+  out =
+      elim (c .before .before .before .before .before .if7 .came) [
+        | inl w ↦ w .2 ∙ taken-there (es (here calm)) (about calm .object .0) _ (omega (arith, w .0 .taken, runs (here calm) .all))
+        | inr w ↦ w .2 ∙ w .1 .ensures ∙ taken-none (es (here calm)) (about calm .object .0) (omega (arith, w .0 .left, runs (here calm) .all))
+      ]
+
+  abbrev q : Quiet
+  q = c .before .quietly .result
+
+  stays : stayed (sceneWith calm e) (t calm) q ≡ act (m calm) (about calm .left) (about calm .op) (sceneWith calm e)
+  stays =
+      let s : Scene = sceneWith calm e in
+      let op : Op = about calm .op in
+      let barred = c .before .before .before .is-barred .ensures ∙ ap (λ (y : Bool). isBarred y (op .call) e) (c .before .before .before .before .is-begun .ensures) in
+      let made : q ≡ quietly (m calm) (about calm .left) op (isBarred (isBegun (m calm)) (op .call) e) (asks (op .call) e) (threadAt (s .threads) (who (m calm))) (s .turn) (s .asked) =
+      c .before .quietly .ensures ∙ (λ i. quietly (m calm) (about calm .left) op (barred i) (c .before .before .asks .ensures i) (seen calm i) (s .turn) (s .asked)) in
+      ap (λ (u : ThreadId). stayed s u q) (c .before .before .before .before .before .before .before .before .before .before .before .before .before .before .who2 .ensures) ∙ ap (stayed s (who (m calm))) made ∙ sym (quiet-law op s (m calm) (about calm .left) (told calm ∙ c .before .before .before .before .before .before .if6 .taken))
+
+  quiet-less : weight (q .acting) < weight (here calm .loop .acting)
+  quiet-less = less calm e out _ stays
+
+  quiet-next : Running (table (here calm)) (list (here calm)) (given (here calm)) (putThread (ts (here calm)) (t calm) (q .thread)) (es (here calm)) (q .turn) (q .asked) (q .acting) (here calm .loop .at)
+  quiet-next = same calm e out _ stays refl
+
+-- a step that changes its object
+module _ (c : tie.After-is-fine Inv-loop μ-loop) where
+  abbrev loud : tie.After-is-quiet Inv-loop μ-loop
+  loud = c .before .before .before .before .before .before .before
+
+  abbrev it : Entry
+  it = c .before .before .before .before .before .if9 .e
+
+  taken : it ≡ entryAt (es (here loud)) (about loud .object)
+  taken =
+      elim (c .before .before .before .before .before .if9 .came) [
+        | inl w ↦ w .2 ∙ taken-there (es (here loud)) (about loud .object .0) _ (omega (arith, w .0 .taken, runs (here loud) .all))
+        | inr w ↦ w .2 ∙ w .1 .ensures ∙ taken-none (es (here loud)) (about loud .object .0) (omega (arith, w .0 .left, runs (here loud) .all))
+      ]
+
+  abbrev s : Scene
+  s = sceneWith loud it
+
+  abbrev op : Op
+  op = about loud .op
+
+  is-loud : isQuiet (threadAt (s .threads) (who (m loud)) .phase) (m loud) (about loud .left) (op .call) ≡ false
+  is-loud = told loud ∙ c .before .before .before .before .before .before .if6 .left
+
+  is-work : c .before .before .before .before .op-in .result ≡ work op s (m loud)
+  is-work = c .before .before .before .before .op-in .ensures ∙ ap (λ (y : Thread). opIn (y .phase) (m loud) op) (seen loud)
+
+  abbrev r : Effect
+  r = c .before .before .loudly .result
+
+  is-done : r ≡ doneBy op s (m loud) (work op s (m loud))
+  is-done = c .before .before .loudly .ensures ∙ (λ i. loudly (m loud) (is-work i) (c .before .before .before .turn-in .ensures i) it (s .threads))
+
+  goes-on : c .before .follows .result ≡ follows (doneBy op s (m loud) (work op s (m loud)) .ending) (m loud) (work op s (m loud)) (threadAt (s .threads) (who (m loud)) .position)
+  goes-on = c .before .follows .ensures ∙ (λ i. follows (is-done i .ending) (m loud) (is-work i) (seen loud i .position))
+
+  is-fine : isFine (doneBy op s (m loud) (work op s (m loud)) .ending) ≡ c .is-fine .result
+  is-fine = ap (λ (y : Effect). isFine (y .ending)) (sym is-done) ∙ sym (c .is-fine .ensures)
+
+  r-six : length (r .threads) ≡ 6
+  r-six = sym (length-map (r .threads) _) ∙ c .before .before .loudly .ok .1 .1 .1 .1 .0 .1 .0 .1
+
+-- the step is fine, and its thread's operation done
+module _ (c : tie.After-asked-in Inv-loop μ-loop) where
+  abbrev f : tie.After-is-fine Inv-loop μ-loop
+  f = c .before .before .before .before .before
+
+  abbrev us : List Thread
+  us = c .before .if11 .threads
+
+  is-us : us ≡ putThread (r f .threads) (t (loud f)) (settledBy (m (loud f)) (c .before .before .before .before .before .before .before .before .before .op-in .result .call) (threadAt (r f .threads) (t (loud f))))
+  is-us =
+      elim (c .before .if11 .came) [
+        | inl w ↦ w .3 ∙ ap (set (r f .threads) (t (loud f) .0)) (w .2 .ensures ∙ ap (settledBy (m (loud f)) (c .before .before .before .before .before .before .before .before .before .op-in .result .call)) (getD-within (r f .threads) (t (loud f) .0) _ _ (omega (arith, w .0 .taken, r-six f))))
+        | inr w ↦ w .1 ∙ sym (set-out (r f .threads) (t (loud f) .0) _ (omega (arith, w .0 .left, r-six f)))
+      ]
+
+  us-six : length us ≡ 6
+  us-six = ap (λ (xs : List Thread). length xs) is-us ∙ length-set (r f .threads) (t (loud f) .0) _ ∙ r-six f
+
+  abbrev moved : Moved
+  moved = record { acting = c .before .before .before .before .before .before .follows .result; scene = record { entry = r f .entry; threads = us; turn = c .before .before .before .before .before .before .before .before .turn-in .result; asked = c .asked-in .result } }
+
+  fine-done : moved ≡ act (m (loud f)) (about (loud f) .left) (op f) (s f)
+  fine-done =
+      let stands = is-us ∙ (λ i. let u = c .before .before .before .before .before .before .before .before .before .before .before .before .before .before .before .before .before .before .before .who2 .ensures i in putThread (is-done f i .threads) u (settledBy (m (loud f)) (is-work f i .call) (threadAt (is-done f i .threads) u))) in
+      (λ i. record { acting = goes-on f i; scene = record { entry = is-done f i .entry; threads = stands i; turn = c .before .before .before .before .before .before .before .before .turn-in .ensures i; asked = c .asked-in .ensures i } })
+      ∙ sym (loud-fine (op f) (s f) (m (loud f)) (about (loud f) .left) (is-loud f) (is-fine f ∙ c .before .before .before .before .if10 .taken))
+
+  fine-less : weight (moved .acting) < weight (here (loud f) .loop .acting)
+  fine-less = less (loud f) (it f) (taken f) moved fine-done
+
+  fine-next : (fs : List Entry) → fs ≡ putEntry (es (here (loud f))) (about (loud f) .object) (r f .entry)
+      → Running (table (here (loud f))) (list (here (loud f))) (given (here (loud f))) us fs (moved .scene .turn) (moved .scene .asked) (moved .acting) (here (loud f) .loop .at)
+  fine-next = next (loud f) (it f) (taken f) moved fine-done
+
+-- it fails, and all stays as it was
+module _ (c : tie.Else10 Inv-loop μ-loop) where
+  abbrev g : tie.After-is-fine Inv-loop μ-loop
+  g = c .before
+
+  abbrev failed : Moved
+  failed = record { acting = c .before .before .follows .result; scene = s g }
+
+  fails-done : failed ≡ act (m (loud g)) (about (loud g) .left) (op g) (s g)
+  fails-done = (λ i. record { acting = goes-on g i; scene = s g }) ∙ sym (loud-fails (op g) (s g) (m (loud g)) (about (loud g) .left) (is-loud g) (is-fine g ∙ c .if10 .left))
+
 loop-holds : tie.Need-loop-holds Inv-loop μ-loop
 loop-holds c =
     let objects : List Entry = c .before .before .before .args .world .objects in
     let threads : List Thread = c .before .before .before .args .world .threads in
     let all : length objects ≡ 16 = sym (length-map objects _) ∙ c .before .before .before .good .1 .0 .1 .1 .1 .0 .1 .0 .1 in
-    let six : length threads ≡ 6 = sym (length-map threads _) ∙ c .before .before .before .good .1 .0 .1 .1 .0 .1 .0 .1 in
-    (begun _ _ _ all, six)
+    let full : length threads ≡ 6 = sym (length-map threads _) ∙ c .before .before .before .good .1 .0 .1 .1 .0 .1 .0 .1 in
+    (begun all, full)
 
 enum-told : tie.Need-enum-told Inv-loop μ-loop
 enum-told c = search needs
@@ -59,11 +284,7 @@ came-to-requires : tie.Need-came-to-requires Inv-loop μ-loop
 came-to-requires c κs = search needs
 
 returns : tie.Need-returns Inv-loop μ-loop
-returns c =
-    let l = c .before .before .before .before .loop in
-    let a = c .before .before .before .before .before .before .before .before .args in
-    let list : List ℕ = a .list .now in
-    c .came-to .ensures ∙ ran-out (a .t1) list (a .world) (l .threads) (l .objects) (l .turn) (l .asked) (l .acting) (l .at) (l .inv .0) (c .before .before .enum-told .given .1) (c .before .if1 .taken)
+returns c = c .came-to .ensures ∙ ran-out (runs (c .before .before .before .before)) (c .before .before .enum-told .given .1) (c .before .if1 .taken)
 
 shared-slice-read-d : tie.Need-shared-slice-read-d Inv-loop μ-loop
 shared-slice-read-d c = search needs
@@ -90,52 +311,19 @@ is-allowed-requires : tie.Need-is-allowed-requires Inv-loop μ-loop
 is-allowed-requires c κs = search needs
 
 returns-2 : tie.Need-returns-2 Inv-loop μ-loop
-returns-2 c =
-    let l = c .before .before .before .before .before .before .before .before .before .before .loop in
-    let a = c .before .before .before .before .before .before .before .before .before .before .before .before .before .before .args in
-    let list : List ℕ = a .list .now in
-    let d : ℕ = getD list (l .at) 0 in
-    let ts : List Thread = l .threads in
-    let six : length ts ≡ 6 = l .inv .1 in
-    let t : ThreadId = c .before .before .before .before .who .result in
-    let x : Thread = c .before .before .if2 .x in
-    let found : x ≡ threadAt ts t =
-    elim (c .before .before .if2 .came) [
-      | inl w ↦ w .2 ∙ getD-within ts (t .0) _ _ (omega (arith, w .0 .taken, six))
-      | inr w ↦ w .2 ∙ w .1 .ensures ∙ sym (List·getD-eq-default ts _ (omega (arith, w .0 .left, six)))
-    ] in
-    let seen : x ≡ threadAt ts (who (chosen (l .asked) d)) = found ∙ ap (threadAt ts) (c .before .before .before .before .who .ensures ∙ ap who (c .before .before .before .before .before .chosen .ensures)) in
-    let told = allowed-in (l .asked) ts d ∙ ap (λ (y : Thread). allowedIn (l .asked) (y .state) d) (sym seen) ∙ sym (c .before .is-allowed .ensures) in
-    not-allowed (a .t1) list (a .world) (l .threads) (l .objects) (l .turn) (l .asked) (l .acting) (l .at) (l .inv .0) (c .before .before .before .before .before .before .before .before .enum-told .given .1) (omega (arith, c .before .before .before .before .before .before .before .if1 .left)) (told ∙ not-true _ (c .if3 .taken))
+returns-2 c = not-allowed (runs (c .before .before .before .before .before .before .before .before .before .before)) (c .before .before .before .before .before .before .before .before .enum-told .given .1) (omega (arith, c .before .before .before .before .before .before .before .if1 .left)) (allowed (c .before) ∙ not-true _ (c .if3 .taken))
 
 add-at : tie.Need-add-at Inv-loop μ-loop
 add-at c = search needs
 
 loop-less : tie.Need-loop-less Inv-loop μ-loop
-loop-less c =
-    let l = c .before .before .before .before .before .before .before .before .before .before .loop in
-    let a = c .before .before .before .before .before .before .before .before .before .before .before .before .before .before .args in
-    let list : List ℕ = a .list .now in
-    decision-less (a .t1) list (a .world) (l .threads) (l .objects) (l .turn) (l .asked) (l .acting) (l .at) (l .inv .0) (omega (arith, c .before .before .before .before .before .before .before .if1 .left)) _ (c .before .before .before .before .before .chosen .ensures)
+loop-less c = decision-less (runs (c .before .before .before .before .before .before .before .before .before .before)) (omega (arith, c .before .before .before .before .before .before .before .if1 .left)) _ (c .before .before .before .before .before .chosen .ensures)
 
 loop-again : tie.Need-loop-again Inv-loop μ-loop
-loop-again c =
-    let l = c .before .before .before .before .before .before .before .before .before .before .loop in
-    let a = c .before .before .before .before .before .before .before .before .before .before .before .before .before .before .args in
-    let list : List ℕ = a .list .now in
-    let d : ℕ = getD list (l .at) 0 in
-    let ts : List Thread = l .threads in
-    let six : length ts ≡ 6 = l .inv .1 in
-    let t : ThreadId = c .before .before .before .before .who .result in
-    let x : Thread = c .before .before .if2 .x in
-    let found : x ≡ threadAt ts t =
-    elim (c .before .before .if2 .came) [
-      | inl w ↦ w .2 ∙ getD-within ts (t .0) _ _ (omega (arith, w .0 .taken, six))
-      | inr w ↦ w .2 ∙ w .1 .ensures ∙ sym (List·getD-eq-default ts _ (omega (arith, w .0 .left, six)))
-    ] in
-    let seen : x ≡ threadAt ts (who (chosen (l .asked) d)) = found ∙ ap (threadAt ts) (c .before .before .before .before .who .ensures ∙ ap who (c .before .before .before .before .before .chosen .ensures)) in
-    let told = allowed-in (l .asked) ts d ∙ ap (λ (y : Thread). allowedIn (l .asked) (y .state) d) (sym seen) ∙ sym (c .before .is-allowed .ensures) in
-    (decision (a .t1) list (a .world) (l .threads) (l .objects) (l .turn) (l .asked) (l .acting) (l .at) (l .inv .0) (c .before .before .before .before .before .before .before .before .enum-told .given .1) (omega (arith, c .before .before .before .before .before .before .before .if1 .left)) (told ∙ not-false _ (c .if3 .left)) _ (c .before .before .before .before .before .chosen .ensures), six)
+loop-again c = (
+  decision (runs (c .before .before .before .before .before .before .before .before .before .before)) (c .before .before .before .before .before .before .before .before .enum-told .given .1) (omega (arith, c .before .before .before .before .before .before .before .if1 .left)) (allowed (c .before) ∙ not-false _ (c .if3 .left)) _ (c .before .before .before .before .before .chosen .ensures),
+  six (c .before .before .before .before .before .before .before .before .before .before),
+)
 
 enum-known-acting : tie.Need-enum-known-acting Inv-loop μ-loop
 enum-known-acting c = search needs
@@ -204,196 +392,21 @@ array-set-from-threads : tie.Need-array-set-from-threads Inv-loop μ-loop
 array-set-from-threads c = search needs
 
 loop-less-2 : tie.Need-loop-less-2 Inv-loop μ-loop
-loop-less-2 c =
-    let l = c .before .before .before .before .before .before .before .before .before .before .before .before .before .before .before .before .before .before .before .before .loop in
-    let a = c .before .before .before .before .before .before .before .before .before .before .before .before .before .before .before .before .before .before .before .before .before .before .before .before .args in
-    let list : List ℕ = a .list .now in
-    let m = c .before .before .before .before .before .before .before .before .before .before .before .before .before .before .before .before .before .before .acting .given .0 .0 in
-    let ops : List Op = a .t1 .ops in
-    let long : length ops ≡ 192 = sym (length-map ops _) ∙ c .before .before .before .before .before .before .before .before .before .before .before .before .before .before .before .before .before .before .before .before .before .before .before .before .good .0 .1 .1 .1 .1 .0 .1 .0 .1 in
-    let ts : List Thread = l .threads in
-    let six : length ts ≡ 6 = l .inv .1 in
-    let t : ThreadId = c .before .before .before .before .before .before .before .before .before .before .before .before .before .before .before .who2 .result in
-    let x : Thread = c .before .before .before .before .before .before .before .before .before .before .before .before .before .if4 .x in
-    let found : x ≡ threadAt ts t =
-    elim (c .before .before .before .before .before .before .before .before .before .before .before .before .before .if4 .came) [
-      | inl w ↦ w .2 ∙ getD-within ts (t .0) _ _ (omega (arith, w .0 .taken, six))
-      | inr w ↦ w .2 ∙ w .1 .ensures ∙ sym (List·getD-eq-default ts _ (omega (arith, w .0 .left, six)))
-    ] in
-    let seen : x ≡ threadAt ts (who m) = found ∙ ap (threadAt ts) (c .before .before .before .before .before .before .before .before .before .before .before .before .before .before .before .who2 .ensures) in
-    let k : ℕ = c .before .before .before .before .before .before .before .before .before .before .before .before .place-of .result in
-    let at : k ≡ placeOf (a .t1 .counts) ts m = c .before .before .before .before .before .before .before .before .before .before .before .before .place-of .ensures ∙ ap (λ (y : Thread). placeIn (a .t1 .counts) (y .position) m) seen ∙ sym (place-in (a .t1 .counts) ts m) in
-    let left : Bool = ltb k 192 in
-    let is-left : left ≡ leftOf (a .t1) ts m = ap (λ (j : ℕ). ltb j 192) at in
-    let op : Op = c .before .before .before .before .before .before .before .before .before .before .before .if5 .op in
-    let is-op : op ≡ opOf (a .t1) ts m =
-    elim (c .before .before .before .before .before .before .before .before .before .before .before .if5 .came) [
-      | inl w ↦ w .2 ∙ op-there (a .t1) ts m k at long _ (w .0 .taken)
-      | inr w ↦ w .2 ∙ w .1 .ensures ∙ op-none (a .t1) ts m k at long (w .0 .left)
-    ] in
-    let objects : List Entry = l .objects in
-    let all : length objects ≡ 16 = l .inv .0 .all in
-    let o : ObjectId = c .before .before .before .before .before .before .before .before .before .before .subject .result in
-    let about : o ≡ subject ts m op = c .before .before .before .before .before .before .before .before .before .before .subject .ensures ∙ ap (λ (y : Thread). subjectIn (y .phase) m op) seen ∙ sym (subject-in ts m op) in
-    let e : Entry = c .before .before .before .before .before .before .if7 .e in
-    let out : e ≡ entryAt objects o =
-    elim (c .before .before .before .before .before .before .if7 .came) [
-      | inl w ↦ w .2 ∙ taken-there objects (o .0) _ (omega (arith, w .0 .taken))
-      | inr w ↦ w .2 ∙ w .1 .ensures ∙ taken-none objects (o .0) (omega (arith, w .0 .left))
-    ] in
-    let s : Scene = record { entry = e; threads = ts; turn = l .turn; asked = l .asked } in
-    let is-quiet = ap (λ (y : Thread). isQuiet (y .phase) m left (op .call)) (sym seen) ∙ sym (c .before .before .before .before .before .before .before .before .is-quiet .ensures) ∙ c .before .before .before .before .before .before .before .if6 .taken in
-    let barred = c .before .before .before .before .is-barred .ensures ∙ ap (λ (y : Bool). isBarred y (op .call) e) (c .before .before .before .before .before .is-begun .ensures) in
-    let q : Quiet = c .before .before .quietly .result in
-    let made : q ≡ quietly m left op (isBarred (isBegun m) (op .call) e) (asks (op .call) e) (threadAt ts (who m)) (l .turn) (l .asked) =
-    c .before .before .quietly .ensures ∙ (λ i. quietly m left op (barred i) (c .before .before .before .asks .ensures i) (seen i) (l .turn) (l .asked)) in
-    let done = ap (λ (u : ThreadId). stayed s u q) (c .before .before .before .before .before .before .before .before .before .before .before .before .before .before .before .who2 .ensures) ∙ ap (stayed s (who m)) made ∙ sym (quiet-law op s m left is-quiet) in
-    let less = acted-less (a .t1) list (a .world) (l .threads) (l .objects) (l .turn) (l .asked) (l .acting) (l .at) (l .inv .0) m (c .before .before .before .before .before .before .before .before .before .before .before .before .before .before .before .before .before .before .acting .given .1) long left is-left op is-op o about e out (stayed s t q) done in
-    omega (arith, less)
+loop-less-2 c = omega (arith, quiet-less (c .before))
 
 loop-again-2 : tie.Need-loop-again-2 Inv-loop μ-loop
-loop-again-2 c =
-    let l = c .before .before .before .before .before .before .before .before .before .before .before .before .before .before .before .before .before .before .before .before .loop in
-    let a = c .before .before .before .before .before .before .before .before .before .before .before .before .before .before .before .before .before .before .before .before .before .before .before .before .args in
-    let list : List ℕ = a .list .now in
-    let m = c .before .before .before .before .before .before .before .before .before .before .before .before .before .before .before .before .before .before .acting .given .0 .0 in
-    let ops : List Op = a .t1 .ops in
-    let long : length ops ≡ 192 = sym (length-map ops _) ∙ c .before .before .before .before .before .before .before .before .before .before .before .before .before .before .before .before .before .before .before .before .before .before .before .before .good .0 .1 .1 .1 .1 .0 .1 .0 .1 in
-    let ts : List Thread = l .threads in
-    let six : length ts ≡ 6 = l .inv .1 in
-    let t : ThreadId = c .before .before .before .before .before .before .before .before .before .before .before .before .before .before .before .who2 .result in
-    let x : Thread = c .before .before .before .before .before .before .before .before .before .before .before .before .before .if4 .x in
-    let found : x ≡ threadAt ts t =
-    elim (c .before .before .before .before .before .before .before .before .before .before .before .before .before .if4 .came) [
-      | inl w ↦ w .2 ∙ getD-within ts (t .0) _ _ (omega (arith, w .0 .taken, six))
-      | inr w ↦ w .2 ∙ w .1 .ensures ∙ sym (List·getD-eq-default ts _ (omega (arith, w .0 .left, six)))
-    ] in
-    let seen : x ≡ threadAt ts (who m) = found ∙ ap (threadAt ts) (c .before .before .before .before .before .before .before .before .before .before .before .before .before .before .before .who2 .ensures) in
-    let k : ℕ = c .before .before .before .before .before .before .before .before .before .before .before .before .place-of .result in
-    let at : k ≡ placeOf (a .t1 .counts) ts m = c .before .before .before .before .before .before .before .before .before .before .before .before .place-of .ensures ∙ ap (λ (y : Thread). placeIn (a .t1 .counts) (y .position) m) seen ∙ sym (place-in (a .t1 .counts) ts m) in
-    let left : Bool = ltb k 192 in
-    let is-left : left ≡ leftOf (a .t1) ts m = ap (λ (j : ℕ). ltb j 192) at in
-    let op : Op = c .before .before .before .before .before .before .before .before .before .before .before .if5 .op in
-    let is-op : op ≡ opOf (a .t1) ts m =
-    elim (c .before .before .before .before .before .before .before .before .before .before .before .if5 .came) [
-      | inl w ↦ w .2 ∙ op-there (a .t1) ts m k at long _ (w .0 .taken)
-      | inr w ↦ w .2 ∙ w .1 .ensures ∙ op-none (a .t1) ts m k at long (w .0 .left)
-    ] in
-    let objects : List Entry = l .objects in
-    let all : length objects ≡ 16 = l .inv .0 .all in
-    let o : ObjectId = c .before .before .before .before .before .before .before .before .before .before .subject .result in
-    let about : o ≡ subject ts m op = c .before .before .before .before .before .before .before .before .before .before .subject .ensures ∙ ap (λ (y : Thread). subjectIn (y .phase) m op) seen ∙ sym (subject-in ts m op) in
-    let e : Entry = c .before .before .before .before .before .before .if7 .e in
-    let out : e ≡ entryAt objects o =
-    elim (c .before .before .before .before .before .before .if7 .came) [
-      | inl w ↦ w .2 ∙ taken-there objects (o .0) _ (omega (arith, w .0 .taken))
-      | inr w ↦ w .2 ∙ w .1 .ensures ∙ taken-none objects (o .0) (omega (arith, w .0 .left))
-    ] in
-    let s : Scene = record { entry = e; threads = ts; turn = l .turn; asked = l .asked } in
-    let is-quiet = ap (λ (y : Thread). isQuiet (y .phase) m left (op .call)) (sym seen) ∙ sym (c .before .before .before .before .before .before .before .before .is-quiet .ensures) ∙ c .before .before .before .before .before .before .before .if6 .taken in
-    let barred = c .before .before .before .before .is-barred .ensures ∙ ap (λ (y : Bool). isBarred y (op .call) e) (c .before .before .before .before .before .is-begun .ensures) in
-    let q : Quiet = c .before .before .quietly .result in
-    let made : q ≡ quietly m left op (isBarred (isBegun m) (op .call) e) (asks (op .call) e) (threadAt ts (who m)) (l .turn) (l .asked) =
-    c .before .before .quietly .ensures ∙ (λ i. quietly m left op (barred i) (c .before .before .before .asks .ensures i) (seen i) (l .turn) (l .asked)) in
-    let done = ap (λ (u : ThreadId). stayed s u q) (c .before .before .before .before .before .before .before .before .before .before .before .before .before .before .before .who2 .ensures) ∙ ap (stayed s (who m)) made ∙ sym (quiet-law op s m left is-quiet) in
-    let next = acted (a .t1) list (a .world) (l .threads) (l .objects) (l .turn) (l .asked) (l .acting) (l .at) (l .inv .0) m (c .before .before .before .before .before .before .before .before .before .before .before .before .before .before .before .before .before .before .acting .given .1) long left is-left op is-op o about e out (stayed s t q) done objects (sym (ap (set objects (o .0)) out ∙ set-getD objects (o .0) _)) in
-    (next, length-set ts (t .0) (q .thread) ∙ six)
+loop-again-2 c = (quiet-next (c .before), length-set (ts (c .before .before .before .before .before .before .before .before .before .before .before .before .before .before .before .before .before .before .before .before)) (t (calm (c .before)) .0) (q (c .before) .thread) ∙ six (c .before .before .before .before .before .before .before .before .before .before .before .before .before .before .before .before .before .before .before .before))
 
 loop-less-3 : tie.Need-loop-less-3 Inv-loop μ-loop
-loop-less-3 c =
-    let l = c .before .before .before .before .before .before .before .before .before .before .before .before .before .before .before .before .before .before .before .before .loop in
-    let a = c .before .before .before .before .before .before .before .before .before .before .before .before .before .before .before .before .before .before .before .before .before .before .before .before .args in
-    let list : List ℕ = a .list .now in
-    let m = c .before .before .before .before .before .before .before .before .before .before .before .before .before .before .before .before .before .before .acting .given .0 .0 in
-    let ops : List Op = a .t1 .ops in
-    let long : length ops ≡ 192 = sym (length-map ops _) ∙ c .before .before .before .before .before .before .before .before .before .before .before .before .before .before .before .before .before .before .before .before .before .before .before .before .good .0 .1 .1 .1 .1 .0 .1 .0 .1 in
-    let ts : List Thread = l .threads in
-    let six : length ts ≡ 6 = l .inv .1 in
-    let t : ThreadId = c .before .before .before .before .before .before .before .before .before .before .before .before .before .before .before .who2 .result in
-    let x : Thread = c .before .before .before .before .before .before .before .before .before .before .before .before .before .if4 .x in
-    let found : x ≡ threadAt ts t =
-    elim (c .before .before .before .before .before .before .before .before .before .before .before .before .before .if4 .came) [
-      | inl w ↦ w .2 ∙ getD-within ts (t .0) _ _ (omega (arith, w .0 .taken, six))
-      | inr w ↦ w .2 ∙ w .1 .ensures ∙ sym (List·getD-eq-default ts _ (omega (arith, w .0 .left, six)))
-    ] in
-    let seen : x ≡ threadAt ts (who m) = found ∙ ap (threadAt ts) (c .before .before .before .before .before .before .before .before .before .before .before .before .before .before .before .who2 .ensures) in
-    let k : ℕ = c .before .before .before .before .before .before .before .before .before .before .before .before .place-of .result in
-    let at : k ≡ placeOf (a .t1 .counts) ts m = c .before .before .before .before .before .before .before .before .before .before .before .before .place-of .ensures ∙ ap (λ (y : Thread). placeIn (a .t1 .counts) (y .position) m) seen ∙ sym (place-in (a .t1 .counts) ts m) in
-    let left : Bool = ltb k 192 in
-    let is-left : left ≡ leftOf (a .t1) ts m = ap (λ (j : ℕ). ltb j 192) at in
-    let op : Op = c .before .before .before .before .before .before .before .before .before .before .before .if5 .op in
-    let is-op : op ≡ opOf (a .t1) ts m =
-    elim (c .before .before .before .before .before .before .before .before .before .before .before .if5 .came) [
-      | inl w ↦ w .2 ∙ op-there (a .t1) ts m k at long _ (w .0 .taken)
-      | inr w ↦ w .2 ∙ w .1 .ensures ∙ op-none (a .t1) ts m k at long (w .0 .left)
-    ] in
-    let objects : List Entry = l .objects in
-    let all : length objects ≡ 16 = l .inv .0 .all in
-    let o : ObjectId = c .before .before .before .before .before .before .before .before .before .before .subject .result in
-    let about : o ≡ subject ts m op = c .before .before .before .before .before .before .before .before .before .before .subject .ensures ∙ ap (λ (y : Thread). subjectIn (y .phase) m op) seen ∙ sym (subject-in ts m op) in
-    let e : Entry = c .before .before .before .before .before .before .if7 .e in
-    let out : e ≡ entryAt objects o =
-    elim (c .before .before .before .before .before .before .if7 .came) [
-      | inl w ↦ w .2 ∙ taken-there objects (o .0) _ (omega (arith, w .0 .taken))
-      | inr w ↦ w .2 ∙ w .1 .ensures ∙ taken-none objects (o .0) (omega (arith, w .0 .left))
-    ] in
-    let s : Scene = record { entry = e; threads = ts; turn = l .turn; asked = l .asked } in
-    let is-quiet = ap (λ (y : Thread). isQuiet (y .phase) m left (op .call)) (sym seen) ∙ sym (c .before .before .before .before .before .before .before .before .is-quiet .ensures) ∙ c .before .before .before .before .before .before .before .if6 .taken in
-    let barred = c .before .before .before .before .is-barred .ensures ∙ ap (λ (y : Bool). isBarred y (op .call) e) (c .before .before .before .before .before .is-begun .ensures) in
-    let q : Quiet = c .before .before .quietly .result in
-    let made : q ≡ quietly m left op (isBarred (isBegun m) (op .call) e) (asks (op .call) e) (threadAt ts (who m)) (l .turn) (l .asked) =
-    c .before .before .quietly .ensures ∙ (λ i. quietly m left op (barred i) (c .before .before .before .asks .ensures i) (seen i) (l .turn) (l .asked)) in
-    let done = ap (λ (u : ThreadId). stayed s u q) (c .before .before .before .before .before .before .before .before .before .before .before .before .before .before .before .who2 .ensures) ∙ ap (stayed s (who m)) made ∙ sym (quiet-law op s m left is-quiet) in
-    let less = acted-less (a .t1) list (a .world) (l .threads) (l .objects) (l .turn) (l .asked) (l .acting) (l .at) (l .inv .0) m (c .before .before .before .before .before .before .before .before .before .before .before .before .before .before .before .before .before .before .acting .given .1) long left is-left op is-op o about e out (stayed s t q) done in
-    omega (arith, less)
+loop-less-3 c = omega (arith, quiet-less (c .before))
 
 loop-again-3 : tie.Need-loop-again-3 Inv-loop μ-loop
 loop-again-3 c =
-    let l = c .before .before .before .before .before .before .before .before .before .before .before .before .before .before .before .before .before .before .before .before .loop in
-    let a = c .before .before .before .before .before .before .before .before .before .before .before .before .before .before .before .before .before .before .before .before .before .before .before .before .args in
-    let list : List ℕ = a .list .now in
-    let m = c .before .before .before .before .before .before .before .before .before .before .before .before .before .before .before .before .before .before .acting .given .0 .0 in
-    let ops : List Op = a .t1 .ops in
-    let long : length ops ≡ 192 = sym (length-map ops _) ∙ c .before .before .before .before .before .before .before .before .before .before .before .before .before .before .before .before .before .before .before .before .before .before .before .before .good .0 .1 .1 .1 .1 .0 .1 .0 .1 in
-    let ts : List Thread = l .threads in
-    let six : length ts ≡ 6 = l .inv .1 in
-    let t : ThreadId = c .before .before .before .before .before .before .before .before .before .before .before .before .before .before .before .who2 .result in
-    let x : Thread = c .before .before .before .before .before .before .before .before .before .before .before .before .before .if4 .x in
-    let found : x ≡ threadAt ts t =
-    elim (c .before .before .before .before .before .before .before .before .before .before .before .before .before .if4 .came) [
-      | inl w ↦ w .2 ∙ getD-within ts (t .0) _ _ (omega (arith, w .0 .taken, six))
-      | inr w ↦ w .2 ∙ w .1 .ensures ∙ sym (List·getD-eq-default ts _ (omega (arith, w .0 .left, six)))
-    ] in
-    let seen : x ≡ threadAt ts (who m) = found ∙ ap (threadAt ts) (c .before .before .before .before .before .before .before .before .before .before .before .before .before .before .before .who2 .ensures) in
-    let k : ℕ = c .before .before .before .before .before .before .before .before .before .before .before .before .place-of .result in
-    let at : k ≡ placeOf (a .t1 .counts) ts m = c .before .before .before .before .before .before .before .before .before .before .before .before .place-of .ensures ∙ ap (λ (y : Thread). placeIn (a .t1 .counts) (y .position) m) seen ∙ sym (place-in (a .t1 .counts) ts m) in
-    let left : Bool = ltb k 192 in
-    let is-left : left ≡ leftOf (a .t1) ts m = ap (λ (j : ℕ). ltb j 192) at in
-    let op : Op = c .before .before .before .before .before .before .before .before .before .before .before .if5 .op in
-    let is-op : op ≡ opOf (a .t1) ts m =
-    elim (c .before .before .before .before .before .before .before .before .before .before .before .if5 .came) [
-      | inl w ↦ w .2 ∙ op-there (a .t1) ts m k at long _ (w .0 .taken)
-      | inr w ↦ w .2 ∙ w .1 .ensures ∙ op-none (a .t1) ts m k at long (w .0 .left)
-    ] in
-    let objects : List Entry = l .objects in
-    let all : length objects ≡ 16 = l .inv .0 .all in
-    let o : ObjectId = c .before .before .before .before .before .before .before .before .before .before .subject .result in
-    let about : o ≡ subject ts m op = c .before .before .before .before .before .before .before .before .before .before .subject .ensures ∙ ap (λ (y : Thread). subjectIn (y .phase) m op) seen ∙ sym (subject-in ts m op) in
-    let e : Entry = c .before .before .before .before .before .before .if7 .e in
-    let out : e ≡ entryAt objects o =
-    elim (c .before .before .before .before .before .before .if7 .came) [
-      | inl w ↦ w .2 ∙ taken-there objects (o .0) _ (omega (arith, w .0 .taken))
-      | inr w ↦ w .2 ∙ w .1 .ensures ∙ taken-none objects (o .0) (omega (arith, w .0 .left))
-    ] in
-    let s : Scene = record { entry = e; threads = ts; turn = l .turn; asked = l .asked } in
-    let is-quiet = ap (λ (y : Thread). isQuiet (y .phase) m left (op .call)) (sym seen) ∙ sym (c .before .before .before .before .before .before .before .before .is-quiet .ensures) ∙ c .before .before .before .before .before .before .before .if6 .taken in
-    let barred = c .before .before .before .before .is-barred .ensures ∙ ap (λ (y : Bool). isBarred y (op .call) e) (c .before .before .before .before .before .is-begun .ensures) in
-    let q : Quiet = c .before .before .quietly .result in
-    let made : q ≡ quietly m left op (isBarred (isBegun m) (op .call) e) (asks (op .call) e) (threadAt ts (who m)) (l .turn) (l .asked) =
-    c .before .before .quietly .ensures ∙ (λ i. quietly m left op (barred i) (c .before .before .before .asks .ensures i) (seen i) (l .turn) (l .asked)) in
-    let done = ap (λ (u : ThreadId). stayed s u q) (c .before .before .before .before .before .before .before .before .before .before .before .before .before .before .before .who2 .ensures) ∙ ap (stayed s (who m)) made ∙ sym (quiet-law op s m left is-quiet) in
-    let next = acted (a .t1) list (a .world) (l .threads) (l .objects) (l .turn) (l .asked) (l .acting) (l .at) (l .inv .0) m (c .before .before .before .before .before .before .before .before .before .before .before .before .before .before .before .before .before .before .acting .given .1) long left is-left op is-op o about e out (stayed s t q) done objects (sym (ap (set objects (o .0)) out ∙ set-getD objects (o .0) _)) in
-    (subst (λ (us : List Thread). Running (a .t1) list (a .world) us objects (q .turn) (q .asked) (q .acting) (l .at)) (set-out ts (t .0) (q .thread) (omega (arith, c .if8 .left, six))) next, six)
+    let w = c .before .before .before .before .before .before .before .before .before .before .before .before .before .before .before .before .before .before .before .before in
+    let x = q (c .before) in (
+      subst (λ (xs : List Thread). Running (table w) (list w) (given w) xs (es w) (x .turn) (x .asked) (x .acting) (w .loop .at)) (set-out (ts w) _ (x .thread) (omega (arith, c .if8 .left, six w))) (quiet-next (c .before)),
+      six w,
+    )
 
 mul-e-2 : tie.Need-mul-e-2 Inv-loop μ-loop
 mul-e-2 c = search needs
@@ -419,8 +432,20 @@ follows-requires c κs = search needs
 is-fine-requires : tie.Need-is-fine-requires Inv-loop μ-loop
 is-fine-requires c κs = search needs
 
+mul-before : tie.Need-mul-before Inv-loop μ-loop
+mul-before c = search needs
+
+array-copy-out-before : tie.Need-array-copy-out-before Inv-loop μ-loop
+array-copy-out-before c = search needs
+
 settled-requires : tie.Need-settled-requires Inv-loop μ-loop
 settled-requires c κs = search needs
+
+mul-threads-2 : tie.Need-mul-threads-2 Inv-loop μ-loop
+mul-threads-2 c = search needs
+
+array-set-from-threads-2 : tie.Need-array-set-from-threads-2 Inv-loop μ-loop
+array-set-from-threads-2 c = search needs
 
 asked-in-requires : tie.Need-asked-in-requires Inv-loop μ-loop
 asked-in-requires c κs = search needs
@@ -432,343 +457,22 @@ array-set-from-objects : tie.Need-array-set-from-objects Inv-loop μ-loop
 array-set-from-objects c = search needs
 
 loop-less-4 : tie.Need-loop-less-4 Inv-loop μ-loop
-loop-less-4 c =
-    let l = c .before .before .before .before .before .before .before .before .before .before .before .before .before .before .before .before .before .before .before .before .before .before .before .before .before .loop in
-    let a = c .before .before .before .before .before .before .before .before .before .before .before .before .before .before .before .before .before .before .before .before .before .before .before .before .before .before .before .before .before .args in
-    let list : List ℕ = a .list .now in
-    let m = c .before .before .before .before .before .before .before .before .before .before .before .before .before .before .before .before .before .before .before .before .before .before .before .acting .given .0 .0 in
-    let ops : List Op = a .t1 .ops in
-    let long : length ops ≡ 192 = sym (length-map ops _) ∙ c .before .before .before .before .before .before .before .before .before .before .before .before .before .before .before .before .before .before .before .before .before .before .before .before .before .before .before .before .before .good .0 .1 .1 .1 .1 .0 .1 .0 .1 in
-    let ts : List Thread = l .threads in
-    let six : length ts ≡ 6 = l .inv .1 in
-    let t : ThreadId = c .before .before .before .before .before .before .before .before .before .before .before .before .before .before .before .before .before .before .before .before .who2 .result in
-    let x : Thread = c .before .before .before .before .before .before .before .before .before .before .before .before .before .before .before .before .before .before .if4 .x in
-    let found : x ≡ threadAt ts t =
-    elim (c .before .before .before .before .before .before .before .before .before .before .before .before .before .before .before .before .before .before .if4 .came) [
-      | inl w ↦ w .2 ∙ getD-within ts (t .0) _ _ (omega (arith, w .0 .taken, six))
-      | inr w ↦ w .2 ∙ w .1 .ensures ∙ sym (List·getD-eq-default ts _ (omega (arith, w .0 .left, six)))
-    ] in
-    let seen : x ≡ threadAt ts (who m) = found ∙ ap (threadAt ts) (c .before .before .before .before .before .before .before .before .before .before .before .before .before .before .before .before .before .before .before .before .who2 .ensures) in
-    let k : ℕ = c .before .before .before .before .before .before .before .before .before .before .before .before .before .before .before .before .before .place-of .result in
-    let at : k ≡ placeOf (a .t1 .counts) ts m = c .before .before .before .before .before .before .before .before .before .before .before .before .before .before .before .before .before .place-of .ensures ∙ ap (λ (y : Thread). placeIn (a .t1 .counts) (y .position) m) seen ∙ sym (place-in (a .t1 .counts) ts m) in
-    let left : Bool = ltb k 192 in
-    let is-left : left ≡ leftOf (a .t1) ts m = ap (λ (j : ℕ). ltb j 192) at in
-    let op : Op = c .before .before .before .before .before .before .before .before .before .before .before .before .before .before .before .before .if5 .op in
-    let is-op : op ≡ opOf (a .t1) ts m =
-    elim (c .before .before .before .before .before .before .before .before .before .before .before .before .before .before .before .before .if5 .came) [
-      | inl w ↦ w .2 ∙ op-there (a .t1) ts m k at long _ (w .0 .taken)
-      | inr w ↦ w .2 ∙ w .1 .ensures ∙ op-none (a .t1) ts m k at long (w .0 .left)
-    ] in
-    let objects : List Entry = l .objects in
-    let all : length objects ≡ 16 = l .inv .0 .all in
-    let o : ObjectId = c .before .before .before .before .before .before .before .before .before .before .before .before .before .before .before .subject .result in
-    let about : o ≡ subject ts m op = c .before .before .before .before .before .before .before .before .before .before .before .before .before .before .before .subject .ensures ∙ ap (λ (y : Thread). subjectIn (y .phase) m op) seen ∙ sym (subject-in ts m op) in
-    let e : Entry = c .before .before .before .before .before .before .before .before .before .before .before .if9 .e in
-    let out : e ≡ entryAt objects o =
-    elim (c .before .before .before .before .before .before .before .before .before .before .before .if9 .came) [
-      | inl w ↦ w .2 ∙ taken-there objects (o .0) _ (omega (arith, w .0 .taken))
-      | inr w ↦ w .2 ∙ w .1 .ensures ∙ taken-none objects (o .0) (omega (arith, w .0 .left))
-    ] in
-    let s : Scene = record { entry = e; threads = ts; turn = l .turn; asked = l .asked } in
-    let is-loud = ap (λ (y : Thread). isQuiet (y .phase) m left (op .call)) (sym seen) ∙ sym (c .before .before .before .before .before .before .before .before .before .before .before .before .before .is-quiet .ensures) ∙ c .before .before .before .before .before .before .before .before .before .before .before .before .if6 .left in
-    let w : Op = c .before .before .before .before .before .before .before .before .before .before .op-in .result in
-    let n : ℕ = c .before .before .before .before .before .before .before .before .before .turn-in .result in
-    let r : Effect = c .before .before .before .before .before .before .before .before .loudly .result in
-    let is-w : w ≡ work op s m = c .before .before .before .before .before .before .before .before .before .before .op-in .ensures ∙ ap (λ (y : Thread). opIn (y .phase) m op) seen in
-    let is-n : n ≡ turnIn m (l .turn) = c .before .before .before .before .before .before .before .before .before .turn-in .ensures in
-    let is-r : r ≡ doneBy op s m (work op s m) = c .before .before .before .before .before .before .before .before .loudly .ensures ∙ (λ i. loudly m (is-w i) (is-n i) e ts) in
-    let acting = c .before .before .before .before .before .before .before .follows .ensures ∙ (λ i. follows (is-r i .ending) m (is-w i) (seen i .position)) in
-    let is-fine = ap (λ (y : Effect). isFine (y .ending)) (sym is-r) ∙ sym (c .before .before .before .before .before .before .is-fine .ensures) in
-    let us : List Thread = c .before .before .settled .result in
-    let is-us : us ≡ settledBy m (work op s m .call) (doneBy op s m (work op s m) .threads) = c .before .before .settled .ensures ∙ (λ i. settledBy m (is-w i .call) (is-r i .threads)) in
-    let is-asked = c .before .asked-in .ensures in
-    let moved : Moved = record { acting = c .before .before .before .before .before .before .before .follows .result; scene = record { entry = r .entry; threads = us; turn = n; asked = c .before .asked-in .result } } in
-    let done : moved ≡ act m left op s =
-    (λ i. record { acting = acting i; scene = record { entry = is-r i .entry; threads = is-us i; turn = is-n i; asked = is-asked i } })
-    ∙ sym (loud-fine op s m left is-loud (is-fine ∙ c .before .before .before .before .before .if10 .taken)) in
-    let less = acted-less (a .t1) list (a .world) (l .threads) (l .objects) (l .turn) (l .asked) (l .acting) (l .at) (l .inv .0) m (c .before .before .before .before .before .before .before .before .before .before .before .before .before .before .before .before .before .before .before .before .before .before .before .acting .given .1) long left is-left op is-op o about e out (moved) done in
-    omega (arith, less)
+loop-less-4 c = omega (arith, fine-less (c .before))
 
 loop-again-4 : tie.Need-loop-again-4 Inv-loop μ-loop
-loop-again-4 c =
-    let l = c .before .before .before .before .before .before .before .before .before .before .before .before .before .before .before .before .before .before .before .before .before .before .before .before .before .loop in
-    let a = c .before .before .before .before .before .before .before .before .before .before .before .before .before .before .before .before .before .before .before .before .before .before .before .before .before .before .before .before .before .args in
-    let list : List ℕ = a .list .now in
-    let m = c .before .before .before .before .before .before .before .before .before .before .before .before .before .before .before .before .before .before .before .before .before .before .before .acting .given .0 .0 in
-    let ops : List Op = a .t1 .ops in
-    let long : length ops ≡ 192 = sym (length-map ops _) ∙ c .before .before .before .before .before .before .before .before .before .before .before .before .before .before .before .before .before .before .before .before .before .before .before .before .before .before .before .before .before .good .0 .1 .1 .1 .1 .0 .1 .0 .1 in
-    let ts : List Thread = l .threads in
-    let six : length ts ≡ 6 = l .inv .1 in
-    let t : ThreadId = c .before .before .before .before .before .before .before .before .before .before .before .before .before .before .before .before .before .before .before .before .who2 .result in
-    let x : Thread = c .before .before .before .before .before .before .before .before .before .before .before .before .before .before .before .before .before .before .if4 .x in
-    let found : x ≡ threadAt ts t =
-    elim (c .before .before .before .before .before .before .before .before .before .before .before .before .before .before .before .before .before .before .if4 .came) [
-      | inl w ↦ w .2 ∙ getD-within ts (t .0) _ _ (omega (arith, w .0 .taken, six))
-      | inr w ↦ w .2 ∙ w .1 .ensures ∙ sym (List·getD-eq-default ts _ (omega (arith, w .0 .left, six)))
-    ] in
-    let seen : x ≡ threadAt ts (who m) = found ∙ ap (threadAt ts) (c .before .before .before .before .before .before .before .before .before .before .before .before .before .before .before .before .before .before .before .before .who2 .ensures) in
-    let k : ℕ = c .before .before .before .before .before .before .before .before .before .before .before .before .before .before .before .before .before .place-of .result in
-    let at : k ≡ placeOf (a .t1 .counts) ts m = c .before .before .before .before .before .before .before .before .before .before .before .before .before .before .before .before .before .place-of .ensures ∙ ap (λ (y : Thread). placeIn (a .t1 .counts) (y .position) m) seen ∙ sym (place-in (a .t1 .counts) ts m) in
-    let left : Bool = ltb k 192 in
-    let is-left : left ≡ leftOf (a .t1) ts m = ap (λ (j : ℕ). ltb j 192) at in
-    let op : Op = c .before .before .before .before .before .before .before .before .before .before .before .before .before .before .before .before .if5 .op in
-    let is-op : op ≡ opOf (a .t1) ts m =
-    elim (c .before .before .before .before .before .before .before .before .before .before .before .before .before .before .before .before .if5 .came) [
-      | inl w ↦ w .2 ∙ op-there (a .t1) ts m k at long _ (w .0 .taken)
-      | inr w ↦ w .2 ∙ w .1 .ensures ∙ op-none (a .t1) ts m k at long (w .0 .left)
-    ] in
-    let objects : List Entry = l .objects in
-    let all : length objects ≡ 16 = l .inv .0 .all in
-    let o : ObjectId = c .before .before .before .before .before .before .before .before .before .before .before .before .before .before .before .subject .result in
-    let about : o ≡ subject ts m op = c .before .before .before .before .before .before .before .before .before .before .before .before .before .before .before .subject .ensures ∙ ap (λ (y : Thread). subjectIn (y .phase) m op) seen ∙ sym (subject-in ts m op) in
-    let e : Entry = c .before .before .before .before .before .before .before .before .before .before .before .if9 .e in
-    let out : e ≡ entryAt objects o =
-    elim (c .before .before .before .before .before .before .before .before .before .before .before .if9 .came) [
-      | inl w ↦ w .2 ∙ taken-there objects (o .0) _ (omega (arith, w .0 .taken))
-      | inr w ↦ w .2 ∙ w .1 .ensures ∙ taken-none objects (o .0) (omega (arith, w .0 .left))
-    ] in
-    let s : Scene = record { entry = e; threads = ts; turn = l .turn; asked = l .asked } in
-    let is-loud = ap (λ (y : Thread). isQuiet (y .phase) m left (op .call)) (sym seen) ∙ sym (c .before .before .before .before .before .before .before .before .before .before .before .before .before .is-quiet .ensures) ∙ c .before .before .before .before .before .before .before .before .before .before .before .before .if6 .left in
-    let w : Op = c .before .before .before .before .before .before .before .before .before .before .op-in .result in
-    let n : ℕ = c .before .before .before .before .before .before .before .before .before .turn-in .result in
-    let r : Effect = c .before .before .before .before .before .before .before .before .loudly .result in
-    let is-w : w ≡ work op s m = c .before .before .before .before .before .before .before .before .before .before .op-in .ensures ∙ ap (λ (y : Thread). opIn (y .phase) m op) seen in
-    let is-n : n ≡ turnIn m (l .turn) = c .before .before .before .before .before .before .before .before .before .turn-in .ensures in
-    let is-r : r ≡ doneBy op s m (work op s m) = c .before .before .before .before .before .before .before .before .loudly .ensures ∙ (λ i. loudly m (is-w i) (is-n i) e ts) in
-    let acting = c .before .before .before .before .before .before .before .follows .ensures ∙ (λ i. follows (is-r i .ending) m (is-w i) (seen i .position)) in
-    let is-fine = ap (λ (y : Effect). isFine (y .ending)) (sym is-r) ∙ sym (c .before .before .before .before .before .before .is-fine .ensures) in
-    let us : List Thread = c .before .before .settled .result in
-    let is-us : us ≡ settledBy m (work op s m .call) (doneBy op s m (work op s m) .threads) = c .before .before .settled .ensures ∙ (λ i. settledBy m (is-w i .call) (is-r i .threads)) in
-    let is-asked = c .before .asked-in .ensures in
-    let moved : Moved = record { acting = c .before .before .before .before .before .before .before .follows .result; scene = record { entry = r .entry; threads = us; turn = n; asked = c .before .asked-in .result } } in
-    let done : moved ≡ act m left op s =
-    (λ i. record { acting = acting i; scene = record { entry = is-r i .entry; threads = is-us i; turn = is-n i; asked = is-asked i } })
-    ∙ sym (loud-fine op s m left is-loud (is-fine ∙ c .before .before .before .before .before .if10 .taken)) in
-    let still : length us ≡ 6 = c .before .before .settled .ok .1 .0 .1 in
-    (acted (a .t1) list (a .world) (l .threads) (l .objects) (l .turn) (l .asked) (l .acting) (l .at) (l .inv .0) m (c .before .before .before .before .before .before .before .before .before .before .before .before .before .before .before .before .before .before .before .before .before .before .before .acting .given .1) long left is-left op is-op o about e out (moved) done _ refl, still)
+loop-again-4 c = (fine-next (c .before) _ refl, us-six (c .before))
 
 loop-less-5 : tie.Need-loop-less-5 Inv-loop μ-loop
-loop-less-5 c =
-    let l = c .before .before .before .before .before .before .before .before .before .before .before .before .before .before .before .before .before .before .before .before .before .before .before .before .before .loop in
-    let a = c .before .before .before .before .before .before .before .before .before .before .before .before .before .before .before .before .before .before .before .before .before .before .before .before .before .before .before .before .before .args in
-    let list : List ℕ = a .list .now in
-    let m = c .before .before .before .before .before .before .before .before .before .before .before .before .before .before .before .before .before .before .before .before .before .before .before .acting .given .0 .0 in
-    let ops : List Op = a .t1 .ops in
-    let long : length ops ≡ 192 = sym (length-map ops _) ∙ c .before .before .before .before .before .before .before .before .before .before .before .before .before .before .before .before .before .before .before .before .before .before .before .before .before .before .before .before .before .good .0 .1 .1 .1 .1 .0 .1 .0 .1 in
-    let ts : List Thread = l .threads in
-    let six : length ts ≡ 6 = l .inv .1 in
-    let t : ThreadId = c .before .before .before .before .before .before .before .before .before .before .before .before .before .before .before .before .before .before .before .before .who2 .result in
-    let x : Thread = c .before .before .before .before .before .before .before .before .before .before .before .before .before .before .before .before .before .before .if4 .x in
-    let found : x ≡ threadAt ts t =
-    elim (c .before .before .before .before .before .before .before .before .before .before .before .before .before .before .before .before .before .before .if4 .came) [
-      | inl w ↦ w .2 ∙ getD-within ts (t .0) _ _ (omega (arith, w .0 .taken, six))
-      | inr w ↦ w .2 ∙ w .1 .ensures ∙ sym (List·getD-eq-default ts _ (omega (arith, w .0 .left, six)))
-    ] in
-    let seen : x ≡ threadAt ts (who m) = found ∙ ap (threadAt ts) (c .before .before .before .before .before .before .before .before .before .before .before .before .before .before .before .before .before .before .before .before .who2 .ensures) in
-    let k : ℕ = c .before .before .before .before .before .before .before .before .before .before .before .before .before .before .before .before .before .place-of .result in
-    let at : k ≡ placeOf (a .t1 .counts) ts m = c .before .before .before .before .before .before .before .before .before .before .before .before .before .before .before .before .before .place-of .ensures ∙ ap (λ (y : Thread). placeIn (a .t1 .counts) (y .position) m) seen ∙ sym (place-in (a .t1 .counts) ts m) in
-    let left : Bool = ltb k 192 in
-    let is-left : left ≡ leftOf (a .t1) ts m = ap (λ (j : ℕ). ltb j 192) at in
-    let op : Op = c .before .before .before .before .before .before .before .before .before .before .before .before .before .before .before .before .if5 .op in
-    let is-op : op ≡ opOf (a .t1) ts m =
-    elim (c .before .before .before .before .before .before .before .before .before .before .before .before .before .before .before .before .if5 .came) [
-      | inl w ↦ w .2 ∙ op-there (a .t1) ts m k at long _ (w .0 .taken)
-      | inr w ↦ w .2 ∙ w .1 .ensures ∙ op-none (a .t1) ts m k at long (w .0 .left)
-    ] in
-    let objects : List Entry = l .objects in
-    let all : length objects ≡ 16 = l .inv .0 .all in
-    let o : ObjectId = c .before .before .before .before .before .before .before .before .before .before .before .before .before .before .before .subject .result in
-    let about : o ≡ subject ts m op = c .before .before .before .before .before .before .before .before .before .before .before .before .before .before .before .subject .ensures ∙ ap (λ (y : Thread). subjectIn (y .phase) m op) seen ∙ sym (subject-in ts m op) in
-    let e : Entry = c .before .before .before .before .before .before .before .before .before .before .before .if9 .e in
-    let out : e ≡ entryAt objects o =
-    elim (c .before .before .before .before .before .before .before .before .before .before .before .if9 .came) [
-      | inl w ↦ w .2 ∙ taken-there objects (o .0) _ (omega (arith, w .0 .taken))
-      | inr w ↦ w .2 ∙ w .1 .ensures ∙ taken-none objects (o .0) (omega (arith, w .0 .left))
-    ] in
-    let s : Scene = record { entry = e; threads = ts; turn = l .turn; asked = l .asked } in
-    let is-loud = ap (λ (y : Thread). isQuiet (y .phase) m left (op .call)) (sym seen) ∙ sym (c .before .before .before .before .before .before .before .before .before .before .before .before .before .is-quiet .ensures) ∙ c .before .before .before .before .before .before .before .before .before .before .before .before .if6 .left in
-    let w : Op = c .before .before .before .before .before .before .before .before .before .before .op-in .result in
-    let n : ℕ = c .before .before .before .before .before .before .before .before .before .turn-in .result in
-    let r : Effect = c .before .before .before .before .before .before .before .before .loudly .result in
-    let is-w : w ≡ work op s m = c .before .before .before .before .before .before .before .before .before .before .op-in .ensures ∙ ap (λ (y : Thread). opIn (y .phase) m op) seen in
-    let is-n : n ≡ turnIn m (l .turn) = c .before .before .before .before .before .before .before .before .before .turn-in .ensures in
-    let is-r : r ≡ doneBy op s m (work op s m) = c .before .before .before .before .before .before .before .before .loudly .ensures ∙ (λ i. loudly m (is-w i) (is-n i) e ts) in
-    let acting = c .before .before .before .before .before .before .before .follows .ensures ∙ (λ i. follows (is-r i .ending) m (is-w i) (seen i .position)) in
-    let is-fine = ap (λ (y : Effect). isFine (y .ending)) (sym is-r) ∙ sym (c .before .before .before .before .before .before .is-fine .ensures) in
-    let us : List Thread = c .before .before .settled .result in
-    let is-us : us ≡ settledBy m (work op s m .call) (doneBy op s m (work op s m) .threads) = c .before .before .settled .ensures ∙ (λ i. settledBy m (is-w i .call) (is-r i .threads)) in
-    let is-asked = c .before .asked-in .ensures in
-    let moved : Moved = record { acting = c .before .before .before .before .before .before .before .follows .result; scene = record { entry = r .entry; threads = us; turn = n; asked = c .before .asked-in .result } } in
-    let done : moved ≡ act m left op s =
-    (λ i. record { acting = acting i; scene = record { entry = is-r i .entry; threads = is-us i; turn = is-n i; asked = is-asked i } })
-    ∙ sym (loud-fine op s m left is-loud (is-fine ∙ c .before .before .before .before .before .if10 .taken)) in
-    let less = acted-less (a .t1) list (a .world) (l .threads) (l .objects) (l .turn) (l .asked) (l .acting) (l .at) (l .inv .0) m (c .before .before .before .before .before .before .before .before .before .before .before .before .before .before .before .before .before .before .before .before .before .before .before .acting .given .1) long left is-left op is-op o about e out (moved) done in
-    omega (arith, less)
+loop-less-5 c = omega (arith, fine-less (c .before))
 
 loop-again-5 : tie.Need-loop-again-5 Inv-loop μ-loop
-loop-again-5 c =
-    let l = c .before .before .before .before .before .before .before .before .before .before .before .before .before .before .before .before .before .before .before .before .before .before .before .before .before .loop in
-    let a = c .before .before .before .before .before .before .before .before .before .before .before .before .before .before .before .before .before .before .before .before .before .before .before .before .before .before .before .before .before .args in
-    let list : List ℕ = a .list .now in
-    let m = c .before .before .before .before .before .before .before .before .before .before .before .before .before .before .before .before .before .before .before .before .before .before .before .acting .given .0 .0 in
-    let ops : List Op = a .t1 .ops in
-    let long : length ops ≡ 192 = sym (length-map ops _) ∙ c .before .before .before .before .before .before .before .before .before .before .before .before .before .before .before .before .before .before .before .before .before .before .before .before .before .before .before .before .before .good .0 .1 .1 .1 .1 .0 .1 .0 .1 in
-    let ts : List Thread = l .threads in
-    let six : length ts ≡ 6 = l .inv .1 in
-    let t : ThreadId = c .before .before .before .before .before .before .before .before .before .before .before .before .before .before .before .before .before .before .before .before .who2 .result in
-    let x : Thread = c .before .before .before .before .before .before .before .before .before .before .before .before .before .before .before .before .before .before .if4 .x in
-    let found : x ≡ threadAt ts t =
-    elim (c .before .before .before .before .before .before .before .before .before .before .before .before .before .before .before .before .before .before .if4 .came) [
-      | inl w ↦ w .2 ∙ getD-within ts (t .0) _ _ (omega (arith, w .0 .taken, six))
-      | inr w ↦ w .2 ∙ w .1 .ensures ∙ sym (List·getD-eq-default ts _ (omega (arith, w .0 .left, six)))
-    ] in
-    let seen : x ≡ threadAt ts (who m) = found ∙ ap (threadAt ts) (c .before .before .before .before .before .before .before .before .before .before .before .before .before .before .before .before .before .before .before .before .who2 .ensures) in
-    let k : ℕ = c .before .before .before .before .before .before .before .before .before .before .before .before .before .before .before .before .before .place-of .result in
-    let at : k ≡ placeOf (a .t1 .counts) ts m = c .before .before .before .before .before .before .before .before .before .before .before .before .before .before .before .before .before .place-of .ensures ∙ ap (λ (y : Thread). placeIn (a .t1 .counts) (y .position) m) seen ∙ sym (place-in (a .t1 .counts) ts m) in
-    let left : Bool = ltb k 192 in
-    let is-left : left ≡ leftOf (a .t1) ts m = ap (λ (j : ℕ). ltb j 192) at in
-    let op : Op = c .before .before .before .before .before .before .before .before .before .before .before .before .before .before .before .before .if5 .op in
-    let is-op : op ≡ opOf (a .t1) ts m =
-    elim (c .before .before .before .before .before .before .before .before .before .before .before .before .before .before .before .before .if5 .came) [
-      | inl w ↦ w .2 ∙ op-there (a .t1) ts m k at long _ (w .0 .taken)
-      | inr w ↦ w .2 ∙ w .1 .ensures ∙ op-none (a .t1) ts m k at long (w .0 .left)
-    ] in
-    let objects : List Entry = l .objects in
-    let all : length objects ≡ 16 = l .inv .0 .all in
-    let o : ObjectId = c .before .before .before .before .before .before .before .before .before .before .before .before .before .before .before .subject .result in
-    let about : o ≡ subject ts m op = c .before .before .before .before .before .before .before .before .before .before .before .before .before .before .before .subject .ensures ∙ ap (λ (y : Thread). subjectIn (y .phase) m op) seen ∙ sym (subject-in ts m op) in
-    let e : Entry = c .before .before .before .before .before .before .before .before .before .before .before .if9 .e in
-    let out : e ≡ entryAt objects o =
-    elim (c .before .before .before .before .before .before .before .before .before .before .before .if9 .came) [
-      | inl w ↦ w .2 ∙ taken-there objects (o .0) _ (omega (arith, w .0 .taken))
-      | inr w ↦ w .2 ∙ w .1 .ensures ∙ taken-none objects (o .0) (omega (arith, w .0 .left))
-    ] in
-    let s : Scene = record { entry = e; threads = ts; turn = l .turn; asked = l .asked } in
-    let is-loud = ap (λ (y : Thread). isQuiet (y .phase) m left (op .call)) (sym seen) ∙ sym (c .before .before .before .before .before .before .before .before .before .before .before .before .before .is-quiet .ensures) ∙ c .before .before .before .before .before .before .before .before .before .before .before .before .if6 .left in
-    let w : Op = c .before .before .before .before .before .before .before .before .before .before .op-in .result in
-    let n : ℕ = c .before .before .before .before .before .before .before .before .before .turn-in .result in
-    let r : Effect = c .before .before .before .before .before .before .before .before .loudly .result in
-    let is-w : w ≡ work op s m = c .before .before .before .before .before .before .before .before .before .before .op-in .ensures ∙ ap (λ (y : Thread). opIn (y .phase) m op) seen in
-    let is-n : n ≡ turnIn m (l .turn) = c .before .before .before .before .before .before .before .before .before .turn-in .ensures in
-    let is-r : r ≡ doneBy op s m (work op s m) = c .before .before .before .before .before .before .before .before .loudly .ensures ∙ (λ i. loudly m (is-w i) (is-n i) e ts) in
-    let acting = c .before .before .before .before .before .before .before .follows .ensures ∙ (λ i. follows (is-r i .ending) m (is-w i) (seen i .position)) in
-    let is-fine = ap (λ (y : Effect). isFine (y .ending)) (sym is-r) ∙ sym (c .before .before .before .before .before .before .is-fine .ensures) in
-    let us : List Thread = c .before .before .settled .result in
-    let is-us : us ≡ settledBy m (work op s m .call) (doneBy op s m (work op s m) .threads) = c .before .before .settled .ensures ∙ (λ i. settledBy m (is-w i .call) (is-r i .threads)) in
-    let is-asked = c .before .asked-in .ensures in
-    let moved : Moved = record { acting = c .before .before .before .before .before .before .before .follows .result; scene = record { entry = r .entry; threads = us; turn = n; asked = c .before .asked-in .result } } in
-    let done : moved ≡ act m left op s =
-    (λ i. record { acting = acting i; scene = record { entry = is-r i .entry; threads = is-us i; turn = is-n i; asked = is-asked i } })
-    ∙ sym (loud-fine op s m left is-loud (is-fine ∙ c .before .before .before .before .before .if10 .taken)) in
-    let still : length us ≡ 6 = c .before .before .settled .ok .1 .0 .1 in
-    (acted (a .t1) list (a .world) (l .threads) (l .objects) (l .turn) (l .asked) (l .acting) (l .at) (l .inv .0) m (c .before .before .before .before .before .before .before .before .before .before .before .before .before .before .before .before .before .before .before .before .before .before .before .acting .given .1) long left is-left op is-op o about e out (moved) done _ (sym (set-out objects (o .0) _ (omega (arith, c .if11 .left)))), still)
+loop-again-5 c = (fine-next (c .before) _ (sym (set-out _ _ _ (omega (arith, c .if12 .left, runs (c .before .before .before .before .before .before .before .before .before .before .before .before .before .before .before .before .before .before .before .before .before .before .before .before .before) .all)))), us-six (c .before))
 
 loop-less-6 : tie.Need-loop-less-6 Inv-loop μ-loop
-loop-less-6 c =
-    let l = c .before .before .before .before .before .before .before .before .before .before .before .before .before .before .before .before .before .before .before .before .loop in
-    let a = c .before .before .before .before .before .before .before .before .before .before .before .before .before .before .before .before .before .before .before .before .before .before .before .before .args in
-    let list : List ℕ = a .list .now in
-    let m = c .before .before .before .before .before .before .before .before .before .before .before .before .before .before .before .before .before .before .acting .given .0 .0 in
-    let ops : List Op = a .t1 .ops in
-    let long : length ops ≡ 192 = sym (length-map ops _) ∙ c .before .before .before .before .before .before .before .before .before .before .before .before .before .before .before .before .before .before .before .before .before .before .before .before .good .0 .1 .1 .1 .1 .0 .1 .0 .1 in
-    let ts : List Thread = l .threads in
-    let six : length ts ≡ 6 = l .inv .1 in
-    let t : ThreadId = c .before .before .before .before .before .before .before .before .before .before .before .before .before .before .before .who2 .result in
-    let x : Thread = c .before .before .before .before .before .before .before .before .before .before .before .before .before .if4 .x in
-    let found : x ≡ threadAt ts t =
-    elim (c .before .before .before .before .before .before .before .before .before .before .before .before .before .if4 .came) [
-      | inl w ↦ w .2 ∙ getD-within ts (t .0) _ _ (omega (arith, w .0 .taken, six))
-      | inr w ↦ w .2 ∙ w .1 .ensures ∙ sym (List·getD-eq-default ts _ (omega (arith, w .0 .left, six)))
-    ] in
-    let seen : x ≡ threadAt ts (who m) = found ∙ ap (threadAt ts) (c .before .before .before .before .before .before .before .before .before .before .before .before .before .before .before .who2 .ensures) in
-    let k : ℕ = c .before .before .before .before .before .before .before .before .before .before .before .before .place-of .result in
-    let at : k ≡ placeOf (a .t1 .counts) ts m = c .before .before .before .before .before .before .before .before .before .before .before .before .place-of .ensures ∙ ap (λ (y : Thread). placeIn (a .t1 .counts) (y .position) m) seen ∙ sym (place-in (a .t1 .counts) ts m) in
-    let left : Bool = ltb k 192 in
-    let is-left : left ≡ leftOf (a .t1) ts m = ap (λ (j : ℕ). ltb j 192) at in
-    let op : Op = c .before .before .before .before .before .before .before .before .before .before .before .if5 .op in
-    let is-op : op ≡ opOf (a .t1) ts m =
-    elim (c .before .before .before .before .before .before .before .before .before .before .before .if5 .came) [
-      | inl w ↦ w .2 ∙ op-there (a .t1) ts m k at long _ (w .0 .taken)
-      | inr w ↦ w .2 ∙ w .1 .ensures ∙ op-none (a .t1) ts m k at long (w .0 .left)
-    ] in
-    let objects : List Entry = l .objects in
-    let all : length objects ≡ 16 = l .inv .0 .all in
-    let o : ObjectId = c .before .before .before .before .before .before .before .before .before .before .subject .result in
-    let about : o ≡ subject ts m op = c .before .before .before .before .before .before .before .before .before .before .subject .ensures ∙ ap (λ (y : Thread). subjectIn (y .phase) m op) seen ∙ sym (subject-in ts m op) in
-    let e : Entry = c .before .before .before .before .before .before .if9 .e in
-    let out : e ≡ entryAt objects o =
-    elim (c .before .before .before .before .before .before .if9 .came) [
-      | inl w ↦ w .2 ∙ taken-there objects (o .0) _ (omega (arith, w .0 .taken))
-      | inr w ↦ w .2 ∙ w .1 .ensures ∙ taken-none objects (o .0) (omega (arith, w .0 .left))
-    ] in
-    let s : Scene = record { entry = e; threads = ts; turn = l .turn; asked = l .asked } in
-    let is-loud = ap (λ (y : Thread). isQuiet (y .phase) m left (op .call)) (sym seen) ∙ sym (c .before .before .before .before .before .before .before .before .is-quiet .ensures) ∙ c .before .before .before .before .before .before .before .if6 .left in
-    let w : Op = c .before .before .before .before .before .op-in .result in
-    let n : ℕ = c .before .before .before .before .turn-in .result in
-    let r : Effect = c .before .before .before .loudly .result in
-    let is-w : w ≡ work op s m = c .before .before .before .before .before .op-in .ensures ∙ ap (λ (y : Thread). opIn (y .phase) m op) seen in
-    let is-n : n ≡ turnIn m (l .turn) = c .before .before .before .before .turn-in .ensures in
-    let is-r : r ≡ doneBy op s m (work op s m) = c .before .before .before .loudly .ensures ∙ (λ i. loudly m (is-w i) (is-n i) e ts) in
-    let acting = c .before .before .follows .ensures ∙ (λ i. follows (is-r i .ending) m (is-w i) (seen i .position)) in
-    let is-fine = ap (λ (y : Effect). isFine (y .ending)) (sym is-r) ∙ sym (c .before .is-fine .ensures) in
-    let moved : Moved = record { acting = c .before .before .follows .result; scene = s } in
-    let done : moved ≡ act m left op s =
-    (λ i. record { acting = acting i; scene = s }) ∙ sym (loud-fails op s m left is-loud (is-fine ∙ c .if10 .left)) in
-    let less = acted-less (a .t1) list (a .world) (l .threads) (l .objects) (l .turn) (l .asked) (l .acting) (l .at) (l .inv .0) m (c .before .before .before .before .before .before .before .before .before .before .before .before .before .before .before .before .before .before .acting .given .1) long left is-left op is-op o about e out (moved) done in
-    omega (arith, less)
+loop-less-6 c = omega (arith, less (loud (g c)) (it (g c)) (taken (g c)) (failed c) (fails-done c))
 
 loop-again-6 : tie.Need-loop-again-6 Inv-loop μ-loop
-loop-again-6 c =
-    let l = c .before .before .before .before .before .before .before .before .before .before .before .before .before .before .before .before .before .before .before .before .loop in
-    let a = c .before .before .before .before .before .before .before .before .before .before .before .before .before .before .before .before .before .before .before .before .before .before .before .before .args in
-    let list : List ℕ = a .list .now in
-    let m = c .before .before .before .before .before .before .before .before .before .before .before .before .before .before .before .before .before .before .acting .given .0 .0 in
-    let ops : List Op = a .t1 .ops in
-    let long : length ops ≡ 192 = sym (length-map ops _) ∙ c .before .before .before .before .before .before .before .before .before .before .before .before .before .before .before .before .before .before .before .before .before .before .before .before .good .0 .1 .1 .1 .1 .0 .1 .0 .1 in
-    let ts : List Thread = l .threads in
-    let six : length ts ≡ 6 = l .inv .1 in
-    let t : ThreadId = c .before .before .before .before .before .before .before .before .before .before .before .before .before .before .before .who2 .result in
-    let x : Thread = c .before .before .before .before .before .before .before .before .before .before .before .before .before .if4 .x in
-    let found : x ≡ threadAt ts t =
-    elim (c .before .before .before .before .before .before .before .before .before .before .before .before .before .if4 .came) [
-      | inl w ↦ w .2 ∙ getD-within ts (t .0) _ _ (omega (arith, w .0 .taken, six))
-      | inr w ↦ w .2 ∙ w .1 .ensures ∙ sym (List·getD-eq-default ts _ (omega (arith, w .0 .left, six)))
-    ] in
-    let seen : x ≡ threadAt ts (who m) = found ∙ ap (threadAt ts) (c .before .before .before .before .before .before .before .before .before .before .before .before .before .before .before .who2 .ensures) in
-    let k : ℕ = c .before .before .before .before .before .before .before .before .before .before .before .before .place-of .result in
-    let at : k ≡ placeOf (a .t1 .counts) ts m = c .before .before .before .before .before .before .before .before .before .before .before .before .place-of .ensures ∙ ap (λ (y : Thread). placeIn (a .t1 .counts) (y .position) m) seen ∙ sym (place-in (a .t1 .counts) ts m) in
-    let left : Bool = ltb k 192 in
-    let is-left : left ≡ leftOf (a .t1) ts m = ap (λ (j : ℕ). ltb j 192) at in
-    let op : Op = c .before .before .before .before .before .before .before .before .before .before .before .if5 .op in
-    let is-op : op ≡ opOf (a .t1) ts m =
-    elim (c .before .before .before .before .before .before .before .before .before .before .before .if5 .came) [
-      | inl w ↦ w .2 ∙ op-there (a .t1) ts m k at long _ (w .0 .taken)
-      | inr w ↦ w .2 ∙ w .1 .ensures ∙ op-none (a .t1) ts m k at long (w .0 .left)
-    ] in
-    let objects : List Entry = l .objects in
-    let all : length objects ≡ 16 = l .inv .0 .all in
-    let o : ObjectId = c .before .before .before .before .before .before .before .before .before .before .subject .result in
-    let about : o ≡ subject ts m op = c .before .before .before .before .before .before .before .before .before .before .subject .ensures ∙ ap (λ (y : Thread). subjectIn (y .phase) m op) seen ∙ sym (subject-in ts m op) in
-    let e : Entry = c .before .before .before .before .before .before .if9 .e in
-    let out : e ≡ entryAt objects o =
-    elim (c .before .before .before .before .before .before .if9 .came) [
-      | inl w ↦ w .2 ∙ taken-there objects (o .0) _ (omega (arith, w .0 .taken))
-      | inr w ↦ w .2 ∙ w .1 .ensures ∙ taken-none objects (o .0) (omega (arith, w .0 .left))
-    ] in
-    let s : Scene = record { entry = e; threads = ts; turn = l .turn; asked = l .asked } in
-    let is-loud = ap (λ (y : Thread). isQuiet (y .phase) m left (op .call)) (sym seen) ∙ sym (c .before .before .before .before .before .before .before .before .is-quiet .ensures) ∙ c .before .before .before .before .before .before .before .if6 .left in
-    let w : Op = c .before .before .before .before .before .op-in .result in
-    let n : ℕ = c .before .before .before .before .turn-in .result in
-    let r : Effect = c .before .before .before .loudly .result in
-    let is-w : w ≡ work op s m = c .before .before .before .before .before .op-in .ensures ∙ ap (λ (y : Thread). opIn (y .phase) m op) seen in
-    let is-n : n ≡ turnIn m (l .turn) = c .before .before .before .before .turn-in .ensures in
-    let is-r : r ≡ doneBy op s m (work op s m) = c .before .before .before .loudly .ensures ∙ (λ i. loudly m (is-w i) (is-n i) e ts) in
-    let acting = c .before .before .follows .ensures ∙ (λ i. follows (is-r i .ending) m (is-w i) (seen i .position)) in
-    let is-fine = ap (λ (y : Effect). isFine (y .ending)) (sym is-r) ∙ sym (c .before .is-fine .ensures) in
-    let moved : Moved = record { acting = c .before .before .follows .result; scene = s } in
-    let done : moved ≡ act m left op s =
-    (λ i. record { acting = acting i; scene = s }) ∙ sym (loud-fails op s m left is-loud (is-fine ∙ c .if10 .left)) in
-    (acted (a .t1) list (a .world) (l .threads) (l .objects) (l .turn) (l .asked) (l .acting) (l .at) (l .inv .0) m (c .before .before .before .before .before .before .before .before .before .before .before .before .before .before .before .before .before .before .acting .given .1) long left is-left op is-op o about e out (moved) done objects (sym (ap (set objects (o .0)) out ∙ set-getD objects (o .0) _)), six)
+loop-again-6 c = (same (loud (g c)) (it (g c)) (taken (g c)) (failed c) (fails-done c) refl, six (here (loud (g c))))
 
 enum-told-2 : tie.Need-enum-told-2 Inv-loop μ-loop
 enum-told-2 c = search needs
@@ -777,19 +481,10 @@ after-requires : tie.Need-after-requires Inv-loop μ-loop
 after-requires c κs = search needs
 
 loop-less-7 : tie.Need-loop-less-7 Inv-loop μ-loop
-loop-less-7 c =
-    let l = c .before .before .before .loop in
-    let a = c .before .before .before .before .before .before .before .args in
-    let list : List ℕ = a .list .now in
-    let less = turn-over-less (a .t1) list (a .world) (l .threads) (l .objects) (l .turn) (l .asked) (l .acting) (l .at) (l .inv .0) (c .before .enum-told2 .given .1) _ (c .after2 .ensures) in
-    omega (arith, less)
+loop-less-7 c = omega (arith, turn-over-less (runs (c .before .before .before)) (c .before .enum-told2 .given .1) _ (c .after .ensures))
 
 loop-again-7 : tie.Need-loop-again-7 Inv-loop μ-loop
-loop-again-7 c =
-    let l = c .before .before .before .loop in
-    let a = c .before .before .before .before .before .before .before .args in
-    let list : List ℕ = a .list .now in
-    (turn-over (a .t1) list (a .world) (l .threads) (l .objects) (l .turn) (l .asked) (l .acting) (l .at) (l .inv .0) (c .before .enum-told2 .given .1) _ (c .after2 .ensures), l .inv .1)
+loop-again-7 c = (turn-over (runs (c .before .before .before)) (c .before .enum-told2 .given .1) _ (c .after .ensures), six (c .before .before .before))
 
 enum-told-3 : tie.Need-enum-told-3 Inv-loop μ-loop
 enum-told-3 c = search needs
@@ -798,39 +493,22 @@ leak-check-requires : tie.Need-leak-check-requires Inv-loop μ-loop
 leak-check-requires c κs = search needs
 
 loop-less-8 : tie.Need-loop-less-8 Inv-loop μ-loop
-loop-less-8 c =
-    let l = c .before .before .before .loop in
-    let a = c .before .before .before .before .before .before .before .args in
-    let list : List ℕ = a .list .now in
-    let less = all-ended-less (a .t1) list (a .world) (l .threads) (l .objects) (l .turn) (l .asked) (l .acting) (l .at) (l .inv .0) (c .before .enum-told3 .given .1) (c .leak-check .result) in
-    omega (arith, less)
+loop-less-8 c = omega (arith, all-ended-less (runs (c .before .before .before)) (c .before .enum-told3 .given .1) (c .leak-check .result))
 
 loop-again-8 : tie.Need-loop-again-8 Inv-loop μ-loop
-loop-again-8 c =
-    let l = c .before .before .before .loop in
-    let a = c .before .before .before .before .before .before .before .args in
-    let list : List ℕ = a .list .now in
-    (all-ended (a .t1) list (a .world) (l .threads) (l .objects) (l .turn) (l .asked) (l .acting) (l .at) (l .inv .0) (c .before .enum-told3 .given .1) _ (c .leak-check .ensures), l .inv .1)
+loop-again-8 c = (all-ended (runs (c .before .before .before)) (c .before .enum-told3 .given .1) _ (c .leak-check .ensures), six (c .before .before .before))
 
 enum-known-acting-2 : tie.Need-enum-known-acting-2 Inv-loop μ-loop
 enum-known-acting-2 c = search needs
 
 returns-3 : tie.Need-returns-3 Inv-loop μ-loop
-returns-3 c =
-    let l = c .before .before .before .before .loop in
-    let a = c .before .before .before .before .before .before .before .before .args in
-    let list : List ℕ = a .list .now in
-    surplus-left (a .t1) list (a .world) (l .threads) (l .objects) (l .turn) (l .asked) (l .acting) (l .at) (l .inv .0) _ (c .before .before .acting2 .given .1) (c .if12 .taken)
+returns-3 c = surplus-left (runs (c .before .before .before .before)) _ (c .before .before .acting2 .given .1) (c .if13 .taken)
 
 came-to-requires-2 : tie.Need-came-to-requires-2 Inv-loop μ-loop
 came-to-requires-2 c κs = search needs
 
 returns-4 : tie.Need-returns-4 Inv-loop μ-loop
-returns-4 c =
-    let l = c .before .before .before .before .before .loop in
-    let a = c .before .before .before .before .before .before .before .before .before .args in
-    let list : List ℕ = a .list .now in
-    c .came-to2 .ensures ∙ verdict-reached (a .t1) list (a .world) (l .threads) (l .objects) (l .turn) (l .asked) (l .acting) (l .at) (l .inv .0) _ (c .before .before .before .acting2 .given .1) (c .before .if12 .left)
+returns-4 c = c .came-to2 .ensures ∙ verdict-reached (runs (c .before .before .before .before .before)) _ (c .before .before .before .acting2 .given .1) (c .before .if13 .left)
 
 pub run-spec : {M : Type 1} → statement M
 run-spec =
@@ -888,7 +566,11 @@ run-spec =
     loudly-requires
     follows-requires
     is-fine-requires
+    mul-before
+    array-copy-out-before
     settled-requires
+    mul-threads-2
+    array-set-from-threads-2
     asked-in-requires
     mul-objects
     array-set-from-objects
