@@ -61,7 +61,11 @@ const USAGE: &str = "modes:
   emit SEED COUNT                cases: table|list|length|answer|sheet
   emit walk SEED COUNT           cases: first or next|table|list|room|answer|list
   replay                         such lines on standard input, said again
-  speed [COUNT]                  decisions a second
+  speed [COUNT [LEAST]]          decisions a second, by COUNT lists of at least
+                                 LEAST decisions
+  speed once ENGINE [COUNT [LEAST]]
+                                 such lists once by oracle, plain, archive or
+                                 none, for an instruction counter
   speed walk [CAP]               runs a second, by first and next
   stack KB                       the archive's calls within that much stack
 TABLE and LIST are hexadecimal; \"\" is the empty one.";
@@ -116,7 +120,14 @@ fn run(words: &[&str]) -> Option<bool> {
         ["emit", seed, count] => emit::emit(seed.parse().ok()?, count.parse().ok()?),
         ["stack", kilobytes] => return Some(stack::within(kilobytes.parse().ok()?)),
         ["speed", "walk", rest @ ..] => speed::walk(number_or(rest, 1000)?),
-        ["speed", rest @ ..] => speed::judge(number_or(rest, 2000)?),
+        ["speed", "once", engine @ ("oracle" | "plain" | "archive" | "none"), rest @ ..] => {
+            let (count, least) = count_and_least(rest)?;
+            speed::once(engine, count, least);
+        }
+        ["speed", rest @ ..] => {
+            let (count, least) = count_and_least(rest)?;
+            speed::judge(count, least);
+        }
         _ => return None,
     }
     Some(true)
@@ -126,6 +137,16 @@ fn number_or(words: &[&str], otherwise: usize) -> Option<usize> {
     match words {
         [] => Some(otherwise),
         [word] => word.parse().ok(),
+        _ => None,
+    }
+}
+
+/// How many lists, and of how many decisions at least.
+fn count_and_least(words: &[&str]) -> Option<(usize, usize)> {
+    match words {
+        [] => Some((2000, 0)),
+        [count] => Some((count.parse().ok()?, 0)),
+        [count, least] => Some((count.parse().ok()?, least.parse().ok()?)),
         _ => None,
     }
 }

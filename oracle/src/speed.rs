@@ -27,36 +27,109 @@ fn rounds(work: &mut dyn FnMut()) -> (usize, f64) {
     (rounds, begun.elapsed().as_secs_f64())
 }
 
-/// Decisions a second by judge. A sheet is written where a call gives one, and
-/// by the oracle before each turn too.
-pub fn judge(tables: usize) {
-    let mut chance = Chance::new(7);
-    let mut cases = Vec::new();
-    for _ in 0..tables {
-        let table = random::table(&mut chance);
-        let world = plain::read(&table, Slip::None).expect("a good table");
-        let list = random::list(&mut chance, &world);
-        cases.push((table, list));
-    }
-    let mut oracle = Oracle::new();
-    timed("oracle", &cases, &mut |table, list| drop(black_box(oracle.judge(table, list, SHEET))));
-    timed("plain", &cases, &mut |table, list| drop(black_box(PLAIN.judge(table, list, SHEET))));
-    if Call::Judge.is_built_in() {
-        let mut sheet = [0; SHEET];
-        timed("archive", &cases, &mut |table, list| {
-            archive::judge(table, list, &mut sheet);
-        });
+#[repr(C)]
+struct TimeSpec {
+    seconds: i64,
+    nanoseconds: i64,
+}
+
+/// The clock of the processor's time that this process has had, on Linux.
+const PROCESS_CPU: i32 = 2;
+
+extern "C" {
+    fn clock_gettime(clock: i32, time: *mut TimeSpec) -> i32;
+}
+
+fn processor_seconds() -> f64 {
+    let mut time = TimeSpec { seconds: 0, nanoseconds: 0 };
+    let failed = unsafe { clock_gettime(PROCESS_CPU, &mut time) };
+    assert_eq!(failed, 0, "no clock of the processor's time");
+    time.seconds as f64 + time.nanoseconds as f64 / 1e9
+}
+
+/// What the rounds of one engine took.
+#[derive(Clone)]
+struct Pace {
+    rounds: usize,
+    seconds: f64,
+    /// Of the processor's time, in the round that took least.
+    best: f64,
+}
+
+impl Pace {
+    fn round(&mut self, work: &mut dyn FnMut()) {
+        let (begun, had) = (Instant::now(), processor_seconds());
+        work();
+        self.best = self.best.min(processor_seconds() - had);
+        self.seconds += begun.elapsed().as_secs_f64();
+        self.rounds += 1;
     }
 }
 
-fn timed(name: &str, cases: &[(Vec<u8>, Vec<u8>)], judge: &mut dyn FnMut(&[u8], &[u8])) {
+type Case = (Vec<u8>, Vec<u8>);
+
+/// So many random lists of at least so many decisions, each with its table.
+fn cases(count: usize, least: usize) -> Vec<Case> {
+    let mut chance = Chance::new(7);
+    let mut cases = Vec::new();
+    while cases.len() < count {
+        let table = random::table(&mut chance);
+        let world = plain::read(&table, Slip::None).expect("a good table");
+        let list = random::list(&mut chance, &world);
+        if list.len() >= least {
+            cases.push((table, list));
+        }
+    }
+    cases
+}
+
+type Engine<'a> = (&'static str, Box<dyn FnMut(&[u8], &[u8]) + 'a>);
+
+/// A sheet is written where a call gives one, and by the oracle before each
+/// turn too.
+fn engines<'a>(oracle: &'a mut Oracle, sheet: &'a mut [u8; SHEET]) -> Vec<Engine<'a>> {
+    let mut engines: Vec<Engine> = vec![
+        ("oracle", Box::new(|table, list| drop(black_box(oracle.judge(table, list, SHEET))))),
+        ("plain", Box::new(|table, list| drop(black_box(PLAIN.judge(table, list, SHEET))))),
+    ];
+    if Call::Judge.is_built_in() {
+        let archive = |table: &[u8], list: &[u8]| drop(archive::judge(table, list, sheet));
+        engines.push(("archive", Box::new(archive)));
+    }
+    engines
+}
+
+fn judge_all(cases: &[Case], judge: &mut dyn FnMut(&[u8], &[u8])) {
+    cases.iter().for_each(|(table, list)| judge(table, list));
+}
+
+/// Decisions a second by judge, the engines by turns.
+pub fn judge(count: usize, least: usize) {
+    let cases = cases(count, least);
+    let (mut oracle, mut sheet) = (Oracle::new(), [0; SHEET]);
+    let mut engines = engines(&mut oracle, &mut sheet);
+    let mut paces = vec![Pace { rounds: 0, seconds: 0.0, best: f64::INFINITY }; engines.len()];
+    let begun = Instant::now();
+    while begun.elapsed().as_secs() < 6 {
+        for ((_, judge), pace) in engines.iter_mut().zip(&mut paces) {
+            pace.round(&mut || judge_all(&cases, judge));
+        }
+    }
     let decisions: usize = cases.iter().map(|(_, list)| list.len()).sum();
-    let (rounds, seconds) =
-        rounds(&mut || cases.iter().for_each(|(table, list)| judge(table, list)));
-    let rate = (decisions * rounds) as f64 / seconds;
-    let count = cases.len();
-    let work = format!("{count} lists, {decisions} decisions, {rounds} rounds");
-    println!("{name}: {work}: {rate:.0} decisions a second");
+    for ((name, _), Pace { rounds, seconds, best }) in engines.iter().zip(paces) {
+        let (mean, most) = ((decisions * rounds) as f64 / seconds, decisions as f64 / best);
+        println!("{name}: {count} lists, {decisions} decisions, {rounds} rounds: {mean:.0} decisions a second by the clock, {most:.0} by the processor's time of the best round");
+    }
+}
+
+/// One round of one engine, for an instruction counter to run; of none, to
+/// know what making the lists takes.
+pub fn once(name: &str, count: usize, least: usize) {
+    let cases = cases(count, least);
+    let (mut oracle, mut sheet) = (Oracle::new(), [0; SHEET]);
+    for (_, judge) in engines(&mut oracle, &mut sheet).iter_mut().filter(|(of, _)| *of == name) {
+        judge_all(&cases, judge);
+    }
 }
 
 /// Takes a table and a list, and puts the following list in its place; the

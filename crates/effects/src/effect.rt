@@ -24,7 +24,7 @@ use rules::table::Call;
 use rules::thread::Thread;
 use rules::world::Effect;
 
-pub fn in_mutex(e: Entry, r: MutexDone) -> Effect
+pub(crate) fn in_mutex(e: Entry, r: MutexDone) -> Effect
     ensures { λ x. ⌜ x ≡ inMutex e r ⌝ }
 {
     let mut entry = e;
@@ -39,7 +39,7 @@ pub fn in_mutex(e: Entry, r: MutexDone) -> Effect
     }
 }
 
-pub fn in_rwlock(e: Entry, r: RwLockDone) -> Effect
+pub(crate) fn in_rwlock(e: Entry, r: RwLockDone) -> Effect
     ensures { λ x. ⌜ x ≡ inRwLock e r ⌝ }
 {
     let mut entry = e;
@@ -54,7 +54,7 @@ pub fn in_rwlock(e: Entry, r: RwLockDone) -> Effect
     }
 }
 
-pub fn in_condvar(e: Entry, r: CondvarDone) -> Effect
+pub(crate) fn in_condvar(e: Entry, r: CondvarDone) -> Effect
     ensures { λ x. ⌜ x ≡ inCondvar e r ⌝ }
 {
     let mut entry = e;
@@ -69,7 +69,7 @@ pub fn in_condvar(e: Entry, r: CondvarDone) -> Effect
     }
 }
 
-pub fn in_notify(e: Entry, r: NotifyDone) -> Effect
+pub(crate) fn in_notify(e: Entry, r: NotifyDone) -> Effect
     ensures { λ x. ⌜ x ≡ inNotify e r ⌝ }
 {
     let mut entry = e;
@@ -84,7 +84,7 @@ pub fn in_notify(e: Entry, r: NotifyDone) -> Effect
     }
 }
 
-pub fn in_channel(e: Entry, r: ChannelDone) -> Effect
+pub(crate) fn in_channel(e: Entry, r: ChannelDone) -> Effect
     ensures { λ x. ⌜ x ≡ inChannel e r ⌝ }
 {
     let mut entry = e;
@@ -99,7 +99,7 @@ pub fn in_channel(e: Entry, r: ChannelDone) -> Effect
     }
 }
 
-pub fn in_arc(e: Entry, r: ArcDone) -> Effect
+pub(crate) fn in_arc(e: Entry, r: ArcDone) -> Effect
     ensures { λ x. ⌜ x ≡ inArc e r ⌝ }
 {
     let mut entry = e;
@@ -114,7 +114,7 @@ pub fn in_arc(e: Entry, r: ArcDone) -> Effect
     }
 }
 
-pub fn in_cell(e: Entry, r: CellDone) -> Effect
+pub(crate) fn in_cell(e: Entry, r: CellDone) -> Effect
     ensures { λ x. ⌜ x ≡ inCell e r ⌝ }
 {
     let mut entry = e;

@@ -50,8 +50,8 @@ use Rattle.turns.specs.declared.step.Acting.{Acting}
 use Rattle.turns.specs.declared.step.Acting.the-variants.{Nobody, Moves, Over, AllEnded, Done}
 use Rattle.turns.specs.declared.step.Scene.{Scene}
 use Rattle.turns.specs.declared.step.Moved.{Moved}
-use Rattle.turns.specs.Step.{firstSubject, subject, with, inTurn, goes, advanced, failing, thereafter, operation, begins, free, goesOn, spurious, answers, waits, act}
-use Rattle.turns.specs.Run.{placeAt, leftOf, opOf, sceneOf, worldOf, isAllowed, chosen, after, movedBy, decided, moveWeight, weight, onwards, rest}
+use Rattle.turns.specs.Step.{firstSubject, subject, with, inTurn, advanced, failing, thereafter, operation, begins, free, goesOn, spurious, answers, waits, act}
+use Rattle.turns.specs.Run.{placeAt, leftOf, opOf, sceneOf, worldOf, isAllowed, chosen, after, movedBy, decided, weight, onwards, rest}
 
 -- the place of an operation that is left, and of none
 module _ (counts : List ℕ) (t : ThreadId) (p : ℕ) where

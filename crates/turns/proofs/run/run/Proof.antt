@@ -12,7 +12,6 @@ use borrow.Author.Tests.{not-true, not-false}
 use borrow.Author.Needs.{needs}
 use Rattle.clocks.specs.Lists.{getD-within}
 use Rattle.clocks.specs.declared.thread.ThreadId.{ThreadId}
-use Rattle.rules.specs.declared.object.ObjectId.{ObjectId}
 use Rattle.rules.specs.declared.object.Entry.{Entry}
 use Rattle.rules.specs.declared.thread.Thread.{Thread}
 use Rattle.rules.specs.declared.table.Op.{Op}
@@ -22,14 +21,13 @@ use Rattle.rules.specs.declared.world.World.{World}
 use Rattle.rules.specs.Ground.{threadAt, putThread}
 use Rattle.rules.specs.Object.{entryAt, putEntry}
 use Rattle.rules.specs.Announce.{asks}
-use Rattle.turns.specs.declared.step.Acting.the-variants.{Moves}
 use Rattle.turns.specs.declared.step.Move.{Move}
 use Rattle.turns.specs.declared.step.Moved.{Moved}
 use Rattle.turns.specs.declared.step.Scene.{Scene}
 use Rattle.turns.specs.declared.quiet.Quiet.{Quiet}
 use Rattle.turns.specs.Step.{act}
 use Rattle.turns.specs.Quiet.{who, isBegun, subjectIn, subject-in, placeIn, place-in, allowedIn, allowed-in, isQuiet, isBarred, quietly, stayed, quiet-law}
-use Rattle.turns.specs.Loud.{opIn, turnIn, loudly, settledBy, isFine, follows, work, doneBy, loud-fine, loud-fails}
+use Rattle.turns.specs.Loud.{opIn, loudly, settledBy, isFine, follows, work, doneBy, loud-fine, loud-fails}
 use Rattle.turns.specs.Run.{placeOf, isAllowed, chosen, Running, weight}
 use Rattle.turns.specs.Running.{begun, ran-out, not-allowed, surplus-left, verdict-reached, decision, decision-less, Found, acted, acted-less, turn-over, turn-over-less, all-ended, all-ended-less, taken-there, taken-none, op-there, op-none}
 use Rattle.turns.proofs.run.run.Statement.{statement}
