@@ -2,7 +2,6 @@
 ghost use mathlib.Core.Path.{_≡_};
 ghost use Rattle.clocks.specs.Clock.{risen};
 ghost use Rattle.rules.specs.Effect.{effect};
-ghost use Rattle.rules.specs.Ground.{withPosition};
 ghost use Rattle.rules.specs.Turn.{retake, dependence, operate, advance, park, wait};
 use crate::announce::action_of;
 use crate::effect::in_arc;
@@ -145,18 +144,12 @@ pub fn one_more(n: u8) -> u8
 }
 
 // One more operation is done.
-pub fn advanced(x: Thread) -> Thread
-    ensures { λ r. ⌜ r ≡ withPosition x (risen 255 (x .position)) ⌝ }
-{
-    let mut y = x;
-    y.position = one_more(y.position);
-    y
-}
-
 pub fn advance(t: ThreadId, threads: [Thread; THREADS]) -> [Thread; THREADS]
     ensures { λ r. ⌜ r ≡ advance t threads ⌝ }
 {
-    put(threads, t, advanced(get(threads, t)))
+    let mut x = get(threads, t);
+    x.position = one_more(x.position);
+    put(threads, t, x)
 }
 
 // A stored unpark is used up, and the thread goes on to retake the mutex; without one it is parked.

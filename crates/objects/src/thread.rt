@@ -1,6 +1,6 @@
 // Thread records, and the passes over them (loom's rt/thread.rs, rt/synchronize.rs).
 ghost use mathlib.Core.Path.{_≡_};
-ghost use Rattle.rules.specs.Ground.{absent, threadAt, putThread, withState, withPhase, setRunnable, setBlocked, unparkState, unpark, unparkThread, isRunnable, hasUnpark, isEnded, isOn, isWrite, isRecv, actionOf, blockedIf, changed, changedAt, others, stored, loaded, ownCountUp};
+ghost use Rattle.rules.specs.Ground.{absent, threadAt, putThread, withState, withPhase, setRunnable, setBlocked, unparkState, unpark, unparkThread, isRunnable, hasUnpark, isEnded, isOn, isWrite, isRecv, actionOf, blockedIf, changed, others, stored, loaded, ownCountUp};
 use clocks::Clock;
 use clocks::THREADS;
 use clocks::ThreadId;
@@ -222,29 +222,7 @@ fn changed(change: Change, by: Clock, t: Thread) -> Thread
     }
 }
 
-// The record of thread `k` in a pass: changed if it is announced on the object, unless it is the active one.
-fn changed_at(
-    change: Change,
-    active: ThreadId,
-    object: ObjectId,
-    by: Clock,
-    k: usize,
-    t: Thread,
-) -> Thread
-    ensures { λ r. ⌜ r ≡ changedAt change active object by k t ⌝ }
-{
-    let a = active.0 as usize;
-    if k == a {
-        return t;
-    }
-    let phase = t.phase;
-    if is_on(phase, object) {
-        return changed(change, by, t);
-    }
-    t
-}
-
-// Every other thread that is announced on the object, changed.
+// Every other thread that is announced on the object, changed. The records of the rest are not written.
 pub(crate) fn others(
     threads: [Thread; THREADS],
     change: Change,
@@ -254,10 +232,16 @@ pub(crate) fn others(
     ensures { λ r. ⌜ r ≡ others change active object threads ⌝ }
 {
     let by = get(threads, active).clock;
+    let a = active.0 as usize;
     let mut out = threads;
     for k in 0..THREADS {
         let t = out[k];
-        out[k] = changed_at(change, active, object, by, k, t);
+        let phase = t.phase;
+        if k != a {
+            if is_on(phase, object) {
+                out[k] = changed(change, by, t);
+            }
+        }
     }
     out
 }

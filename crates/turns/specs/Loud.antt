@@ -87,18 +87,19 @@ isWait (Channel c) = false
 isWait (Arc c) = false
 isWait (Cell c) = false
 
--- the thread that acted, after it
-abbrev one-done : Thread → Thread
-one-done x = withPosition x (risen 255 (x .position))
+-- the operations that the thread that acted has done after it
+unfoldable pub afterwards : Call → ℕ → ℕ
+afterwards c n = elim (isWait c) [ true ↦ n | false ↦ risen 255 n ]
 
-unfoldable pub afterwards : Call → Thread → Thread
-afterwards c x = elim (isWait c) [ true ↦ x | false ↦ one-done x ]
+unfoldable pub settledBy : Move → Call → ℕ → ℕ
+settledBy (Begins t) c n = afterwards c n
+settledBy (Answers t b) c n = n
+settledBy (Goes t p) c n = risen 255 n
+settledBy (Waits t o) c n = n
 
-unfoldable pub settledBy : Move → Call → Thread → Thread
-settledBy (Begins t) c x = afterwards c x
-settledBy (Answers t b) c x = x
-settledBy (Goes t p) c x = one-done x
-settledBy (Waits t o) c x = x
+-- the threads with the position of one changed
+abbrev pub positionBy : List Thread → ThreadId → (ℕ → ℕ) → List Thread
+positionBy ts t f = putThread ts t (withPosition (threadAt ts t) (f (threadAt ts t .position)))
 
 -- who acts after it
 abbrev pub isFine : Ending → Bool
@@ -146,7 +147,7 @@ failed-fine ending.NoRoom spot z h = absurd (false≢true h)
 failed-fine (ending.Race x) spot z h = absurd (false≢true h)
 
 thereafter-is : (c : Call) (t : ThreadId) (p : ℕ) (s : Scene)
-    → thereafter c t p s ≡ record { acting = nextOf c t (risen 255 p); scene = with s (s .entry) (putThread (s .threads) t (afterwards c (threadAt (s .threads) t))) }
+    → thereafter c t p s ≡ record { acting = nextOf c t (risen 255 p); scene = with s (s .entry) (positionBy (s .threads) t (afterwards c)) }
 unfolding thereafter nextOf afterwards advance
 thereafter-is (Mutex c) t p s = refl
 thereafter-is (RwLock c) t p s = refl
@@ -170,7 +171,7 @@ module _ (op : Op) (s : Scene) where
   doneBy m w = loudly m w (turnIn m (s .turn)) (s .entry) (s .threads)
 
   abbrev pub sceneBy : Move → Op → Effect → Scene
-  sceneBy m w r = record { entry = r .entry; threads = putThread (r .threads) (who m) (settledBy m (w .call) (threadAt (r .threads) (who m))); turn = turnIn m (s .turn); asked = askedIn m (s .asked) }
+  sceneBy m w r = record { entry = r .entry; threads = positionBy (r .threads) (who m) (settledBy m (w .call)); turn = turnIn m (s .turn); asked = askedIn m (s .asked) }
 
   operation-fine : (t : ThreadId) (w : Op) → isFine (doneBy (Begins t) w .ending) ≡ true
       → operation t w s ≡ record { acting = follows (doneBy (Begins t) w .ending) (Begins t) w (position (Begins t)); scene = sceneBy (Begins t) w (doneBy (Begins t) w) }

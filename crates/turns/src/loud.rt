@@ -9,7 +9,6 @@ use clocks::THREADS;
 use clocks::ThreadId;
 use effects::effect::effect;
 use effects::turn::advance;
-use effects::turn::advanced;
 use effects::turn::one_more;
 use effects::turn::operate;
 use effects::turn::wait;
@@ -131,24 +130,24 @@ fn is_wait(call: Call) -> bool
 }
 
 // An announced operation is done then, but for a wait.
-fn afterwards(call: Call, x: Thread) -> Thread
-    ensures { λ r. ⌜ r ≡ afterwards call x ⌝ }
+fn afterwards(call: Call, position: u8) -> u8
+    ensures { λ r. ⌜ r ≡ afterwards call position ⌝ }
 {
     if is_wait(call) {
-        return x;
+        return position;
     }
-    advanced(x)
+    one_more(position)
 }
 
-// The thread that acted, after a step that was fine.
-pub fn settled(m: Move, call: Call, x: Thread) -> Thread
-    ensures { λ r. ⌜ r ≡ settledBy m call x ⌝ }
+// How many operations the thread that acted has done, after a step that was fine.
+pub fn settled(m: Move, call: Call, position: u8) -> u8
+    ensures { λ r. ⌜ r ≡ settledBy m call position ⌝ }
 {
     match m {
-        Move::Begins(_) => afterwards(call, x),
-        Move::Answers(_, _) => x,
-        Move::Goes(_, _) => advanced(x),
-        Move::Waits(_, _) => x,
+        Move::Begins(_) => afterwards(call, position),
+        Move::Answers(_, _) => position,
+        Move::Goes(_, _) => one_more(position),
+        Move::Waits(_, _) => position,
     }
 }
 

@@ -200,9 +200,9 @@ pub fn run(table: Table, world: World, list: &[u8]) -> Ran
                         threads = r.threads;
                         if i < THREADS {
                             let work_call = work.call;
-                            let before = threads[i];
-                            let y = settled(m, work_call, before);
-                            threads[i] = y;
+                            let stood = threads[i].position;
+                            let stands = settled(m, work_call, stood);
+                            threads[i].position = stands;
                         }
                         turn = n;
                         asked = asked_in(m, asked);

@@ -1,6 +1,7 @@
 -- `turn::advance` meets its contract.
 use mathlib.Core.Path.{_∙_, ap}
 use Rattle.rules.specs.declared.thread.Thread.{Thread}
+use Prim.Native.Nat.{ℕ}
 use Rattle.clocks.specs.Clock.{risen}
 use Rattle.rules.specs.Ground.{withPosition, putThread}
 use Rattle.rules.specs.Turn.{advance}
@@ -11,8 +12,8 @@ use Rattle.effects.proofs.turn.advance.Tie as tie
 get-requires : tie.Need-get-requires
 get-requires c κs = search needs
 
-advanced-requires : tie.Need-advanced-requires
-advanced-requires c κs = search needs
+one-more-requires : tie.Need-one-more-requires
+one-more-requires c κs = search needs
 
 put-requires : tie.Need-put-requires
 put-requires c κs = search needs
@@ -21,8 +22,10 @@ returns : tie.Need-returns
 unfolding advance
 returns c =
     let a = c .before .before .before .args in
+    let g = c .before .before .get in
     c .put .ensures
-    ∙ ap (putThread (a .threads) (a .t)) (c .before .advanced .ensures ∙ ap (λ (x : Thread). withPosition x (risen 255 (x .position))) (c .before .before .get .ensures))
+    ∙ ap (λ (n : ℕ). putThread (a .threads) (a .t) (withPosition (g .result) n)) (c .before .one-more .ensures)
+    ∙ ap (λ (x : Thread). putThread (a .threads) (a .t) (withPosition x (risen 255 (x .position)))) (g .ensures)
 
 pub advance-spec : {M : Type 1} → statement M
-advance-spec = tie.close (tie.spec get-requires advanced-requires put-requires returns)
+advance-spec = tie.close (tie.spec get-requires one-more-requires put-requires returns)

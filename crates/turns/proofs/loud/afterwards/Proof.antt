@@ -12,12 +12,12 @@ returns : tie.Need-returns
 unfolding afterwards
 returns c = let waits = sym (c .before .is-wait .ensures) ∙ c .if1 .taken in rw (afterwards, waits)
 
-advanced-requires : tie.Need-advanced-requires
-advanced-requires c κs = search needs
+one-more-requires : tie.Need-one-more-requires
+one-more-requires c κs = search needs
 
 returns-2 : tie.Need-returns-2
 unfolding afterwards
-returns-2 c = let goes = sym (c .before .before .is-wait .ensures) ∙ c .before .if1 .left in c .advanced .ensures ∙ rw (afterwards, goes)
+returns-2 c = let goes = sym (c .before .before .is-wait .ensures) ∙ c .before .if1 .left in c .one-more .ensures ∙ rw (afterwards, goes)
 
 pub afterwards-spec : {M : Type 1} → statement M
-afterwards-spec = tie.close (tie.spec is-wait-requires returns advanced-requires returns-2)
+afterwards-spec = tie.close (tie.spec is-wait-requires returns one-more-requires returns-2)

@@ -18,7 +18,7 @@ use Rattle.rules.specs.declared.table.Op.{Op}
 use Rattle.rules.specs.declared.table.Table.{Table}
 use Rattle.rules.specs.declared.world.Effect.{Effect}
 use Rattle.rules.specs.declared.world.World.{World}
-use Rattle.rules.specs.Ground.{threadAt, putThread}
+use Rattle.rules.specs.Ground.{withPosition, threadAt, putThread}
 use Rattle.rules.specs.Object.{entryAt, putEntry}
 use Rattle.rules.specs.Announce.{asks}
 use Rattle.turns.specs.declared.step.Move.{Move}
@@ -27,7 +27,7 @@ use Rattle.turns.specs.declared.step.Scene.{Scene}
 use Rattle.turns.specs.declared.quiet.Quiet.{Quiet}
 use Rattle.turns.specs.Step.{act}
 use Rattle.turns.specs.Quiet.{who, isBegun, subjectIn, subject-in, placeIn, place-in, allowedIn, allowed-in, isQuiet, isBarred, quietly, stayed, quiet-law}
-use Rattle.turns.specs.Loud.{opIn, loudly, settledBy, isFine, follows, work, doneBy, loud-fine, loud-fails}
+use Rattle.turns.specs.Loud.{opIn, loudly, settledBy, positionBy, isFine, follows, work, doneBy, loud-fine, loud-fails}
 use Rattle.turns.specs.Run.{placeOf, isAllowed, chosen, Running, weight}
 use Rattle.turns.specs.Running.{begun, ran-out, not-allowed, surplus-left, verdict-reached, decision, decision-less, Found, acted, acted-less, turn-over, turn-over-less, all-ended, all-ended-less, taken-there, taken-none, op-there, op-none}
 use Rattle.turns.proofs.run.run.Statement.{statement}
@@ -230,11 +230,17 @@ module _ (c : tie.After-asked-in Inv-loop μ-loop) where
   abbrev us : List Thread
   us = c .before .if11 .threads
 
-  is-us : us ≡ putThread (r f .threads) (t (loud f)) (settledBy (m (loud f)) (c .before .before .before .before .before .before .before .before .before .op-in .result .call) (threadAt (r f .threads) (t (loud f))))
+  is-us : us ≡ positionBy (r f .threads) (t (loud f)) (settledBy (m (loud f)) (c .before .before .before .before .before .before .before .before .before .op-in .result .call))
   is-us =
+      let rs : List Thread = r f .threads in
+      let i : ℕ = t (loud f) .0 in
+      let by : ℕ → ℕ = settledBy (m (loud f)) (c .before .before .before .before .before .before .before .before .before .op-in .result .call) in
       elim (c .before .if11 .came) [
-        | inl w ↦ w .3 ∙ ap (set (r f .threads) (t (loud f) .0)) (w .2 .ensures ∙ ap (settledBy (m (loud f)) (c .before .before .before .before .before .before .before .before .before .op-in .result .call)) (getD-within (r f .threads) (t (loud f) .0) _ _ (omega (arith, w .0 .taken, r-six f))))
-        | inr w ↦ w .1 ∙ sym (set-out (r f .threads) (t (loud f) .0) _ (omega (arith, w .0 .left, r-six f)))
+        | inl w ↦
+            w .3
+            ∙ ap (λ (n : ℕ). set rs i (withPosition (getD rs i _) n)) (w .1 .ensures)
+            ∙ ap (λ (y : Thread). set rs i (withPosition y (by (y .position)))) (getD-within rs i _ _ (omega (arith, w .0 .taken, r-six f)))
+        | inr w ↦ w .1 ∙ sym (set-out rs i _ (omega (arith, w .0 .left, r-six f)))
       ]
 
   us-six : length us ≡ 6
@@ -245,7 +251,7 @@ module _ (c : tie.After-asked-in Inv-loop μ-loop) where
 
   fine-done : moved ≡ act (m (loud f)) (about (loud f) .left) (op f) (s f)
   fine-done =
-      let stands = is-us ∙ (λ i. let u = c .before .before .before .before .before .before .before .before .before .before .before .before .before .before .before .before .before .before .before .who2 .ensures i in putThread (is-done f i .threads) u (settledBy (m (loud f)) (is-work f i .call) (threadAt (is-done f i .threads) u))) in
+      let stands = is-us ∙ (λ i. let u = c .before .before .before .before .before .before .before .before .before .before .before .before .before .before .before .before .before .before .before .who2 .ensures i in positionBy (is-done f i .threads) u (settledBy (m (loud f)) (is-work f i .call))) in
       (λ i. record { acting = goes-on f i; scene = record { entry = is-done f i .entry; threads = stands i; turn = c .before .before .before .before .before .before .before .before .turn-in .ensures i; asked = c .asked-in .ensures i } })
       ∙ sym (loud-fine (op f) (s f) (m (loud f)) (about (loud f) .left) (is-loud f) (is-fine f ∙ c .before .before .before .before .if10 .taken))
 
@@ -430,11 +436,11 @@ follows-requires c κs = search needs
 is-fine-requires : tie.Need-is-fine-requires Inv-loop μ-loop
 is-fine-requires c κs = search needs
 
-mul-before : tie.Need-mul-before Inv-loop μ-loop
-mul-before c = search needs
+mul-stood : tie.Need-mul-stood Inv-loop μ-loop
+mul-stood c = search needs
 
-array-copy-out-before : tie.Need-array-copy-out-before Inv-loop μ-loop
-array-copy-out-before c = search needs
+element-copy-out-stood : tie.Need-element-copy-out-stood Inv-loop μ-loop
+element-copy-out-stood c = search needs
 
 settled-requires : tie.Need-settled-requires Inv-loop μ-loop
 settled-requires c κs = search needs
@@ -442,8 +448,8 @@ settled-requires c κs = search needs
 mul-threads-2 : tie.Need-mul-threads-2 Inv-loop μ-loop
 mul-threads-2 c = search needs
 
-array-set-from-threads-2 : tie.Need-array-set-from-threads-2 Inv-loop μ-loop
-array-set-from-threads-2 c = search needs
+way-write-given-threads : tie.Need-way-write-given-threads Inv-loop μ-loop
+way-write-given-threads c = search needs
 
 asked-in-requires : tie.Need-asked-in-requires Inv-loop μ-loop
 asked-in-requires c κs = search needs
@@ -564,11 +570,11 @@ run-spec =
     loudly-requires
     follows-requires
     is-fine-requires
-    mul-before
-    array-copy-out-before
+    mul-stood
+    element-copy-out-stood
     settled-requires
     mul-threads-2
-    array-set-from-threads-2
+    way-write-given-threads
     asked-in-requires
     mul-objects
     array-set-from-objects
