@@ -164,7 +164,7 @@ fn park(t: ThreadId, m: ObjectId, e: Entry, threads: [Thread; THREADS]) -> [Thre
     put(threads, t, with_phase(set_blocked(x), Phase::Parked))
 }
 
-// A condvar wait, once it is queued: the mutex is released, and the thread parks.
+// A condvar wait, once it is queued: the mutex is released, and the thread parks. The release is that of `mutex_effect`, so that it is compiled once.
 pub fn wait(t: ThreadId, m: ObjectId, e: Entry, threads: [Thread; THREADS]) -> Effect
     ensures { λ r. ⌜ r ≡ wait t m e threads ⌝ }
 {
