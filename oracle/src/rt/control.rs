@@ -10,11 +10,12 @@ use super::location::Race;
 use super::run::{self, Ground};
 use super::{Execution, MAX_THREADS};
 
-#[cfg(not(target_arch = "x86_64"))]
-compile_error!("the switch between stacks is written for x86_64");
+#[cfg(not(any(target_arch = "x86_64", target_arch = "aarch64")))]
+compile_error!("the switch between stacks is written for x86_64 and aarch64");
 
 // oracle_switch(save: *mut usize, load: usize): pushes the registers that a
 // call must keep, saves the stack pointer, and goes on where `load` stopped.
+#[cfg(target_arch = "x86_64")]
 global_asm!(
     ".global oracle_switch",
     "oracle_switch:",
@@ -35,13 +36,50 @@ global_asm!(
     "ret",
 );
 
+#[cfg(target_arch = "aarch64")]
+global_asm!(
+    ".global oracle_switch",
+    "oracle_switch:",
+    "sub sp, sp, #160",
+    "stp x29, x30, [sp, #0]",
+    "stp x19, x20, [sp, #16]",
+    "stp x21, x22, [sp, #32]",
+    "stp x23, x24, [sp, #48]",
+    "stp x25, x26, [sp, #64]",
+    "stp x27, x28, [sp, #80]",
+    "stp d8, d9, [sp, #96]",
+    "stp d10, d11, [sp, #112]",
+    "stp d12, d13, [sp, #128]",
+    "stp d14, d15, [sp, #144]",
+    "mov x9, sp",
+    "str x9, [x0]",
+    "mov sp, x1",
+    "ldp x29, x30, [sp, #0]",
+    "ldp x19, x20, [sp, #16]",
+    "ldp x21, x22, [sp, #32]",
+    "ldp x23, x24, [sp, #48]",
+    "ldp x25, x26, [sp, #64]",
+    "ldp x27, x28, [sp, #80]",
+    "ldp d8, d9, [sp, #96]",
+    "ldp d10, d11, [sp, #112]",
+    "ldp d12, d13, [sp, #128]",
+    "ldp d14, d15, [sp, #144]",
+    "add sp, sp, #160",
+    "ret",
+);
+
 extern "C" {
     fn oracle_switch(save: *mut usize, load: usize);
 }
 
 /// A panic's way up a stack takes some ten kilobytes; the rest is distance.
 const STACK: usize = 128 * 1024;
-const SAVED_REGISTERS: usize = 6;
+/// What a switch leaves on a stack, in words, and which of them says where it
+/// goes on.
+#[cfg(target_arch = "x86_64")]
+const SAVED: (usize, usize) = (8, 6);
+#[cfg(target_arch = "aarch64")]
+const SAVED: (usize, usize) = (20, 1);
 
 /// Why a thread gave control back.
 #[derive(Clone, Copy)]
@@ -93,8 +131,8 @@ impl Control {
         let stack = &mut self.stacks[thread];
         let top = (stack.as_mut_ptr() as usize + STACK) & !15;
         let word = std::mem::size_of::<usize>();
-        let entry_at = top - 2 * word;
-        let stopped = entry_at - SAVED_REGISTERS * word;
+        let stopped = top - SAVED.0 * word;
+        let entry_at = stopped + SAVED.1 * word;
         // SAFETY: all of it lies inside this thread's own stack.
         unsafe {
             ptr::write_bytes(stopped as *mut u8, 0, top - stopped);
