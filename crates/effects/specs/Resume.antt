@@ -60,12 +60,12 @@ abbrev pub resume : ThreadId → Clock → List Thread → List Thread
 resume t v ts = putThread ts t (resumed v (threadAt ts t))
 
 -- thread n of a list changed by a function
-abbrev change : (Thread → Thread) → ℕ → List Thread → List Thread
+abbrev pub change : (Thread → Thread) → ℕ → List Thread → List Thread
 change h n ts = set ts n (h (getD ts n absent))
 
 module _ (h : Thread → Thread) where
   -- what h leaves of a thread
-  change-read : {A : Type 0} (f : Thread → A) → ((x : Thread) → f (h x) ≡ f x) → (n : ℕ) (ts : List Thread) → f (getD (change h n ts) n absent) ≡ f (getD ts n absent)
+  pub change-read : {A : Type 0} (f : Thread → A) → ((x : Thread) → f (h x) ≡ f x) → (n : ℕ) (ts : List Thread) → f (getD (change h n ts) n absent) ≡ f (getD ts n absent)
   change-read f p n [] = refl
   change-read f p zero (x ∷ ts) = p x
   change-read f p (suc n) (x ∷ ts) = change-read f p n ts
@@ -108,7 +108,7 @@ module _ (t : ThreadId) (v : Clock) where
   answered-resume n ts = change-same (resumed v) (λ x. withAnswer x n) (λ x. refl) (t .0) ts
 
   -- a pass leaves the active thread alone
-  alone : (c : Change) (o : ObjectId) (by : Clock) (j : ℕ) → j ≡ t .0 + 0 → (x : Thread) → changedAt c t o by j x ≡ x
+  pub alone : (c : Change) (o : ObjectId) (by : Clock) (j : ℕ) → j ≡ t .0 + 0 → (x : Thread) → changedAt c t o by j x ≡ x
   unfolding changedAt
   alone c o by j e x = by-test (λ (y : Thread). y ≡ x) (eqb j (t .0)) (λ q. refl) (λ q. absurd (eqb-false j (t .0) q (omega arith)))
 
