@@ -1,5 +1,4 @@
-// What each operation does to its object and to the threads, and how it is announced.
+// What each operation does to the state of its kind and to the threads, and how it is announced.
 pub mod announce;
-pub mod effect;
-mod parts;
+pub mod parts;
 pub mod turn;

@@ -124,7 +124,7 @@ fn mutex_released(r: mutex::Released) -> MutexDone
     }
 }
 
-pub(crate) fn mutex_effect(
+pub fn mutex_effect(
     c: mutex::Call,
     active: ThreadId,
     object: ObjectId,
@@ -189,7 +189,7 @@ fn rwlock_released(r: rwlock::Released) -> RwLockDone
     }
 }
 
-pub(crate) fn rwlock_effect(
+pub fn rwlock_effect(
     c: rwlock::Call,
     active: ThreadId,
     object: ObjectId,
@@ -258,7 +258,7 @@ fn condvar_notified(r: condvar::Notified) -> CondvarDone
 }
 
 // A wait only queues here; its turn does the rest.
-pub(crate) fn condvar_effect(
+pub fn condvar_effect(
     c: condvar::Call,
     active: ThreadId,
     s: condvar::State,
@@ -305,7 +305,7 @@ fn notify_waited(r: notify::Waited) -> NotifyDone
     }
 }
 
-pub(crate) fn notify_effect(
+pub fn notify_effect(
     c: notify::Call,
     active: ThreadId,
     object: ObjectId,
@@ -349,7 +349,7 @@ fn channel_received(r: mpsc::Passed) -> ChannelDone
     }
 }
 
-pub(crate) fn channel_effect(
+pub fn channel_effect(
     c: mpsc::Call,
     active: ThreadId,
     object: ObjectId,
@@ -388,7 +388,7 @@ fn arc_answered(active: ThreadId, r: arc::Counted) -> ArcDone
     }
 }
 
-pub(crate) fn arc_effect(
+pub fn arc_effect(
     c: arc::Call,
     active: ThreadId,
     s: arc::State,
@@ -420,7 +420,7 @@ fn cell_touched(active: ThreadId, threads: [Thread; THREADS], r: cell::Accessed)
     }
 }
 
-pub(crate) fn cell_effect(
+pub fn cell_effect(
     c: cell::Call,
     active: ThreadId,
     s: cell::State,

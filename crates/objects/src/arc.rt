@@ -73,7 +73,7 @@ fn with_accesses(
     }
 }
 
-pub(crate) fn set_last_access(action: Action, access: Access, state: State) -> State
+pub fn set_last_access(action: Action, access: Access, state: State) -> State
     ensures { λ r. ⌜ r ≡ setLastAccess action access state ⌝ }
 {
     let inc = state.last_ref_inc;

@@ -53,7 +53,7 @@ pub(crate) fn last_dependent_access(action: Action, state: State) -> Access
     }
 }
 
-pub(crate) fn set_last_access(action: Action, access: Access, state: State) -> State
+pub fn set_last_access(action: Action, access: Access, state: State) -> State
     ensures { λ r. ⌜ r ≡ setLastAccess action access state ⌝ }
 {
     let mut s = state;

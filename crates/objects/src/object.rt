@@ -1,6 +1,6 @@
 // The store of objects: announcing, dependence, leaks (loom's rt/object.rs). An entry hands out the state of its kind and takes it back.
 ghost use mathlib.Core.Path.{_≡_};
-ghost use Rattle.rules.specs.Object.{newEntry, noObject, announced, anyAccess, setAnyAccess, lastDependentAccess, setLastAccess, leaks};
+ghost use Rattle.rules.specs.Object.{newEntry, noObject, announced, anyAccess, lastDependentAccess, leaks};
 use crate::access;
 use crate::arc;
 use crate::cell;
@@ -83,42 +83,6 @@ fn any_access(kind: Kind, e: Entry) -> Access
     }
 }
 
-fn set_any_access(kind: Kind, a: Access, e: Entry) -> Entry
-    ensures { λ r. ⌜ r ≡ setAnyAccess kind a e ⌝ }
-{
-    let mut out = e;
-    match kind {
-        Kind::Mutex => {
-            let mut s = e.mutex;
-            s.last_access = a;
-            out.mutex = s;
-            out
-        }
-        Kind::RwLock => {
-            let mut s = e.rwlock;
-            s.last_access = a;
-            out.rwlock = s;
-            out
-        }
-        Kind::Condvar => {
-            let mut s = e.condvar;
-            s.last_access = a;
-            out.condvar = s;
-            out
-        }
-        Kind::Notify => {
-            let mut s = e.notify;
-            s.last_access = a;
-            out.notify = s;
-            out
-        }
-        Kind::Channel => e,
-        Kind::Arc => e,
-        Kind::Cell => e,
-        Kind::Nothing => e,
-    }
-}
-
 // The last access that an action on the object depends on; a channel and an Arc go by the action.
 pub fn last_dependent_access(action: Action, e: Entry) -> Access
     ensures { λ r. ⌜ r ≡ lastDependentAccess action e ⌝ }
@@ -135,27 +99,6 @@ pub fn last_dependent_access(action: Action, e: Entry) -> Access
         }
         Action::RwLock(_) => any_access(kind, e),
         Action::Opaque => any_access(kind, e),
-    }
-}
-
-pub fn set_last_access(action: Action, x: Access, e: Entry) -> Entry
-    ensures { λ r. ⌜ r ≡ setLastAccess action x e ⌝ }
-{
-    let kind = e.kind;
-    let mut out = e;
-    match action {
-        Action::Arc(a) => {
-            let s = e.arc;
-            out.arc = arc::set_last_access(a, x, s);
-            out
-        }
-        Action::Channel(a) => {
-            let s = e.channel;
-            out.channel = mpsc::set_last_access(a, x, s);
-            out
-        }
-        Action::RwLock(_) => set_any_access(kind, x, e),
-        Action::Opaque => set_any_access(kind, x, e),
     }
 }
 

@@ -4,4 +4,5 @@ pub mod RunLaws
 pub mod Quiet
 pub mod Loud
 pub mod Running
+pub mod Settling
 pub mod Start

@@ -32,8 +32,7 @@ use Rattle.turns.specs.declared.step.Scene.{Scene}
 use Rattle.turns.specs.declared.step.Moved.{Moved}
 use Rattle.turns.specs.declared.quiet.Quiet.{Quiet}
 use Rattle.turns.specs.Step as step
-use Rattle.turns.specs.Step.{firstSubject, subject, act}
-use Rattle.turns.specs.Run.{placeAt, placeOf, isAllowed, chosen}
+use Rattle.turns.specs.Step.{firstSubject, subject, act, placeAt, placeOf, isAllowed, chosen}
 
 -- the thread that moves, and what a move is about, by its record alone
 abbrev pub who : Move → ThreadId

@@ -3,10 +3,10 @@ use mathlib.Core.Path.{_≡_}
 use mathlib.Core.Bool.{Bool, true, false}
 use mathlib.Core.List.{List}
 use Prim.Native.Nat.{ℕ, _+_, _-_, _*_}
-use lib.Dec.{eqb, ltb, leb}
+use lib.Dec.{ltb}
 use lib.ListN.{length, getD, drop}
 use lib.Seq.{sets}
-use Rattle.clocks.specs.declared.thread.ThreadId.{ThreadId}
+use Rattle.clocks.specs.Clock.{risen}
 use Rattle.lists.specs.Rules.{Outcome}
 use Rattle.lists.specs.Rules as outcome
 use Rattle.lists.specs.Judge.{Judged, notAllowed, surplus, unfinished, verdict, judgeEnd, judge}
@@ -20,7 +20,8 @@ use Rattle.rules.specs.declared.world.Asked.{Asked}
 use Rattle.rules.specs.declared.world.Asked.the-variants as asked
 use Rattle.rules.specs.declared.world.World.{World}
 use Rattle.rules.specs.declared.world.Decided.{Decided}
-use Rattle.rules.specs.Ground.{flag, threadAt, isRunnable}
+use Rattle.rules.specs.Ground.{flag}
+use Rattle.rules.specs.Announce.{actionOf}
 use Rattle.rules.specs.Object.{putEntry}
 use Rattle.rules.specs.Table.{noOp, opsOf}
 use Rattle.rules.specs.Turn.{threadIn, entryIn, wants, done, afterTurn, allEnded, anyRunnable, leakCheck, stuck, settled, wait, goOn, turnOf, question, opsLeft}
@@ -29,21 +30,14 @@ use Rattle.rules.specs.Sheet.{sheetOf}
 use Rattle.turns.specs.declared.step.Move.{Move}
 use Rattle.turns.specs.declared.step.Move.the-variants.{Begins, Answers, Goes, Waits}
 use Rattle.turns.specs.declared.step.Acting.{Acting}
-use Rattle.turns.specs.declared.step.Acting.the-variants.{Nobody, Moves, Over, AllEnded, Done}
+use Rattle.turns.specs.declared.step.Acting.the-variants.{Nobody, Moves, Settles, Over, AllEnded, Done}
 use Rattle.turns.specs.declared.step.Scene.{Scene}
+use Rattle.turns.specs.Step.{placeOf}
+use Rattle.turns.specs.Quiet.{who}
+use Rattle.turns.specs.Loud.{turnIn, askedIn, versionIn, changed, stands, notedIn, note, followsThen}
 use Rattle.turns.specs.declared.run.End.{End}
 use Rattle.turns.specs.declared.run.End.the-variants as end
 use Rattle.turns.specs.declared.run.Ran.{Ran}
-
--- where the operation at position p of a thread stands among the table's; 192 if there is none
-abbrev pub placeAt : List ℕ → ThreadId → ℕ → ℕ
-placeAt counts t p = elim (ltb p (getD counts (t .0) 0)) [ true ↦ 32 * t .0 + p | false ↦ 192 ]
-
-abbrev pub placeOf : List ℕ → List Thread → Move → ℕ
-placeOf counts ts (Begins t) = placeAt counts t (threadAt ts t .position)
-placeOf counts ts (Answers t b) = placeAt counts t (threadAt ts t .position)
-placeOf counts ts (Goes t p) = placeAt counts t p
-placeOf counts ts (Waits t o) = 192
 
 -- whether an operation is left for a move, and the operation
 abbrev pub leftOf : Table → List Thread → Move → Bool
@@ -59,15 +53,6 @@ sceneOf w o = record { entry = entryIn w o; threads = w .threads; turn = w .turn
 abbrev pub worldOf : World → ObjectId → Scene → World
 worldOf w o s = record { threads = s .threads; objects = putEntry (w .objects) o (s .entry); turn = s .turn; asked = s .asked }
 
--- "naming a runnable thread, else 23", and "0 or 1 (else 23)"
-abbrev pub isAllowed : Asked → List Thread → ℕ → Bool
-isAllowed asked.Nobody ts d = isRunnable (threadAt ts (record { 0 = d }) .state)
-isAllowed (asked.Thread t) ts d = leb d 1
-
-abbrev pub chosen : Asked → ℕ → Move
-chosen asked.Nobody d = Begins (record { 0 = d })
-chosen (asked.Thread t) d = Answers t (eqb d 1)
-
 -- who acts after a turn
 unfoldable pub after : List Thread → Acting
 after ts = elim (allEnded ts) [ true ↦ AllEnded | false ↦ elim (anyRunnable ts) [ true ↦ Nobody | false ↦ Done (Deadlock (stuck 0 ts)) ] ]
@@ -79,9 +64,31 @@ movedBy table (Answers t b) w = question t (getD (opsLeft table w t) 0 noOp) (fl
 movedBy table (Goes t p) w = goOn t (drop p (opsOf table (t .0))) w
 movedBy table (Waits t m) w = afterTurn (settled w m (wait t m (entryIn w m) (w .threads)))
 
+-- the world after a thread has settled: the access of an announced operation is recorded, and the thread has done it
+unfoldable pub settledIn : Move → Op → World → World
+settledIn m op w =
+    let e = entryIn w (op .object) in
+    let v = versionIn m (actionOf (op .call)) e (threadIn w (who m)) in
+    record {
+      threads = changed (w .threads) (who m) (stands m (op .call) v);
+      objects = putEntry (w .objects) (op .object) (note (notedIn m (actionOf (op .call)) (e .kind)) (record { «path_id» = turnIn m (w .turn); version = v }) e);
+      turn = turnIn m (w .turn);
+      asked = askedIn m (w .asked);
+    }
+
+-- what follows then
+abbrev pub goneOn : Table → Acting → World → Decided
+goneOn table Nobody w = wants w
+goneOn table (Moves m) w = movedBy table m w
+goneOn table (Settles m op) w = wants w
+goneOn table Over w = afterTurn w
+goneOn table AllEnded w = done (leakCheck 0 (w .objects)) w
+goneOn table (Done a) w = done a w
+
 unfoldable pub decided : Table → Acting → World → Decided
 decided table Nobody w = wants w
 decided table (Moves m) w = movedBy table m w
+decided table (Settles m op) w = goneOn table (followsThen m (op .call) (threadIn w (who m) .position)) (settledIn m op w)
 decided table Over w = afterTurn w
 decided table AllEnded w = done (leakCheck 0 (w .objects)) w
 decided table (Done a) w = done a w
@@ -107,9 +114,16 @@ moveWeight (Answers t b) = 1000
 moveWeight (Goes t p) = 300 - p + 3
 moveWeight (Waits t o) = 3
 
+abbrev pub settleWeight : Move → ℕ
+settleWeight (Begins t) = 1999
+settleWeight (Answers t b) = 1999
+settleWeight (Goes t p) = 2 * (300 - risen 255 p + 3) + 1
+settleWeight (Waits t o) = 5
+
 abbrev pub weight : Acting → ℕ
 weight Nobody = 0
-weight (Moves m) = moveWeight m
+weight (Moves m) = 2 * moveWeight m
+weight (Settles m op) = settleWeight m
 weight Over = 2
 weight AllEnded = 1
 weight (Done a) = 0

@@ -47,11 +47,13 @@ use Rattle.rules.specs.Judge.{Verdict, outcomeOf, step}
 use Rattle.turns.specs.declared.step.Move.{Move}
 use Rattle.turns.specs.declared.step.Move.the-variants.{Begins, Answers, Goes, Waits}
 use Rattle.turns.specs.declared.step.Acting.{Acting}
-use Rattle.turns.specs.declared.step.Acting.the-variants.{Nobody, Moves, Over, AllEnded, Done}
+use Rattle.turns.specs.declared.step.Acting.the-variants.{Nobody, Moves, Settles, Over, AllEnded, Done}
 use Rattle.turns.specs.declared.step.Scene.{Scene}
 use Rattle.turns.specs.declared.step.Moved.{Moved}
-use Rattle.turns.specs.Step.{firstSubject, subject, with, inTurn, advanced, failing, thereafter, operation, begins, free, goesOn, spurious, answers, waits, act}
-use Rattle.turns.specs.Run.{placeAt, leftOf, opOf, sceneOf, worldOf, isAllowed, chosen, after, movedBy, decided, weight, onwards, rest}
+use Rattle.turns.specs.Step.{firstSubject, subject, with, inTurn, advanced, failing, thereafter, operation, begins, free, goesOn, spurious, answers, waits, act, placeAt, isAllowed, chosen}
+use Rattle.turns.specs.Run.{leftOf, opOf, sceneOf, worldOf, after, movedBy, decided, weight, onwards, rest, settledIn, settleWeight}
+use Rattle.turns.specs.Quiet.{who, stops, isQuiet}
+use Rattle.turns.specs.Loud.{isWait, failedAs, nextOf, comesTo, followsThen}
 
 -- the place of an operation that is left, and of none
 module _ (counts : List ℕ) (t : ThreadId) (p : ℕ) where
@@ -308,7 +310,7 @@ failing-lighter n ending.Misuse t o s next z h = z
 failing-lighter n ending.NoRoom t o s next z h = z
 failing-lighter n (ending.Race x) t o s next z h = z
 
-thereafter-lighter : (c : Call) (t : ThreadId) (p : ℕ) (s : Scene) → weight (thereafter c t p s .acting) < 1000
+thereafter-lighter : (c : Call) (t : ThreadId) (p : ℕ) (s : Scene) → weight (thereafter c t p s .acting) < 2000
 unfolding thereafter
 thereafter-lighter (Mutex c) t p s = omega arith
 thereafter-lighter (RwLock c) t p s = omega arith
@@ -320,27 +322,27 @@ thereafter-lighter (Channel c) t p s = omega arith
 thereafter-lighter (Arc c) t p s = omega arith
 thereafter-lighter (Cell c) t p s = omega arith
 
-operation-lighter : (t : ThreadId) (op : Op) (s : Scene) → weight (operation t op s .acting) < 1000
+operation-lighter : (t : ThreadId) (op : Op) (s : Scene) → weight (operation t op s .acting) < 2000
 unfolding operation
-operation-lighter t op s = failing-lighter 1000 _ t (op .object) s _ (omega arith) (thereafter-lighter (op .call) t _ _)
+operation-lighter t op s = failing-lighter 2000 _ t (op .object) s _ (omega arith) (thereafter-lighter (op .call) t _ _)
 
-begins-lighter : (p : Phase) (t : ThreadId) (op : Op) (s : Scene) → weight (begins p t op s .acting) < 1000
+begins-lighter : (p : Phase) (t : ThreadId) (op : Op) (s : Scene) → weight (begins p t op s .acting) < 2000
 unfolding begins
 begins-lighter Nothing t op s = omega arith
 begins-lighter (Announced p) t op s = operation-lighter t op s
 begins-lighter Parked t op s = omega arith
 begins-lighter (Retaking p) t op s = operation-lighter t _ s
 
-answers-lighter : (b : Bool) (t : ThreadId) (op : Op) (s : Scene) → weight (answers t b op s .acting) < 1000
+answers-lighter : (b : Bool) (t : ThreadId) (op : Op) (s : Scene) → weight (answers t b op s .acting) < 2000
 unfolding answers spurious
 answers-lighter true t op s = omega arith
 answers-lighter false t op s = omega arith
 
-goes-on-lighter : (t : ThreadId) (p : ℕ) (b : Bool) (op : Op) (s : Scene) → (b ≡ true → p < 192) → weight (goesOn t p b op s .acting) < 300 - p + 3
+goes-on-lighter : (t : ThreadId) (p : ℕ) (b : Bool) (op : Op) (s : Scene) → (b ≡ true → p < 192) → weight (goesOn t p b op s .acting) < 2 * (300 - p + 3)
 unfolding goesOn free
 goes-on-lighter t p false op s h = omega arith
 goes-on-lighter t p true op s h =
-    let n : ℕ = 300 - p + 3 in
+    let n : ℕ = 2 * (300 - p + 3) in
     split (isFree (op .call))
     (λ f. rw (goesOn, f) (failing-lighter n _ t (op .object) s _ (omega arith) (omega (arith, h refl))))
     (λ f. split (asks (op .call) (s .entry)) (λ a. rw (goesOn, f, a) (omega arith)) (λ a. rw (goesOn, f, a) (omega arith)))
@@ -363,6 +365,41 @@ unfolding after
 after-light ts =
     split (allEnded ts) (λ e. rw (after, e) (omega arith)) (λ e. split (anyRunnable ts) (λ r. rw (after, e, r) (omega arith)) (λ r. rw (after, e, r) (omega arith)))
 
-pub chosen-weight : (a : Asked) (d : ℕ) → weight (Moves (chosen a d)) ≡ 1000
+pub chosen-weight : (a : Asked) (d : ℕ) → weight (Moves (chosen a d)) ≡ 2000
 chosen-weight asked.Nobody d = refl
 chosen-weight (asked.Thread t) d = refl
+
+-- a thread that has settled has fewer steps to follow
+pub settle-lighter : (m : Move) (c : Call) (position : ℕ) → weight (followsThen m c position) < settleWeight m
+unfolding followsThen nextOf
+settle-lighter (Begins t) c position = split (isWait c) (λ e. rw (nextOf, e) (omega arith)) (λ e. rw (nextOf, e) (omega arith))
+settle-lighter (Answers t b) c position = omega arith
+settle-lighter (Goes t p) c position = omega arith
+settle-lighter (Waits t o) c position = omega arith
+
+comes-to-lighter : (e : Ending) (m : Move) (op : Op) (position : ℕ) (n : ℕ) → settleWeight m < n → weight (comesTo e m op position) < n
+unfolding comesTo failedAs
+comes-to-lighter ending.Fine m op position n h = h
+comes-to-lighter ending.Misuse m op position n h = omega (arith, h)
+comes-to-lighter ending.NoRoom m op position n h = omega (arith, h)
+comes-to-lighter (ending.Race x) m op position n h = omega (arith, h)
+
+-- so has one after what was done to its object
+pub comes-lighter : (table : Table) (ts : List Thread) (p : Phase) (e : Ending) (m : Move) (b : Bool) (op w : Op) (position : ℕ) → b ≡ leftOf table ts m → isQuiet p m b (op .call) ≡ false
+    → weight (comesTo e m w position) < weight (Moves m)
+unfolding stops
+comes-lighter table ts p e (Begins t) b op w position l q = comes-to-lighter e (Begins t) w position 2000 (omega arith)
+comes-lighter table ts p e (Answers t x) b op w position l q = comes-to-lighter e (Answers t x) w position 2000 (omega arith)
+comes-lighter table ts p e (Goes t k) true op w position l q =
+    let h = left-early (table .counts) t k (sym l) in comes-to-lighter e (Goes t k) w position (2 * (300 - k + 3)) (omega (arith, h))
+comes-lighter table ts p e (Goes t k) false op w position l q = absurd (false≢true (sym q))
+comes-lighter table ts p e (Waits t o) b op w position l q = comes-to-lighter e (Waits t o) w position 6 (omega arith)
+
+-- what is left of the judgement once a thread has settled
+pub rest-settles : (table : Table) (list : List ℕ) (at : ℕ) (w : World) (m : Move) (op : Op)
+    → rest table list at (Settles m op) w ≡ rest table list at (followsThen m (op .call) (threadIn w (who m) .position)) (settledIn m op w)
+unfolding rest decided followsThen nextOf
+rest-settles table list at w (Begins t) op = split (isWait (op .call)) (λ e. rw (nextOf, e)) (λ e. rw (nextOf, e))
+rest-settles table list at w (Answers t b) op = refl
+rest-settles table list at w (Goes t p) op = refl
+rest-settles table list at w (Waits t o) op = refl

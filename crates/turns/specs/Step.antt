@@ -2,7 +2,9 @@
 -- document 01.
 use mathlib.Core.Bool.{Bool, true, false}
 use mathlib.Core.List.{List}
-use Prim.Native.Nat.{ℕ}
+use Prim.Native.Nat.{ℕ, _+_, _*_}
+use lib.Dec.{eqb, ltb, leb}
+use lib.ListN.{getD}
 use Rattle.clocks.specs.Clock.{risen}
 use Rattle.clocks.specs.declared.thread.ThreadId.{ThreadId}
 use Rattle.rules.specs.declared.object.ObjectId.{ObjectId}
@@ -22,7 +24,7 @@ use Rattle.rules.specs.declared.answer.Answer.the-variants as answer
 use Rattle.rules.specs.declared.answer.Spot.{Spot}
 use Rattle.rules.specs.declared.world.Asked.{Asked}
 use Rattle.rules.specs.declared.world.Asked.the-variants as asked
-use Rattle.rules.specs.Ground.{threadAt, putThread, setRunnable}
+use Rattle.rules.specs.Ground.{threadAt, putThread, setRunnable, isRunnable}
 use Rattle.rules.specs.Object.{putNotify}
 use Rattle.rules.specs.Notify as notify
 use Rattle.rules.specs.Effect.{effect}
@@ -142,3 +144,22 @@ act (Begins t) left op s = begins (threadAt (s .threads) t .phase) t op s
 act (Answers t spur) left op s = answers t spur op s
 act (Goes t p) left op s = goesOn t p left op s
 act (Waits t o) left op s = waits t o s
+
+-- where the operation at position p of a thread stands among the table's; 192 if there is none
+abbrev pub placeAt : List ℕ → ThreadId → ℕ → ℕ
+placeAt counts t p = elim (ltb p (getD counts (t .0) 0)) [ true ↦ 32 * t .0 + p | false ↦ 192 ]
+
+abbrev pub placeOf : List ℕ → List Thread → Move → ℕ
+placeOf counts ts (Begins t) = placeAt counts t (threadAt ts t .position)
+placeOf counts ts (Answers t b) = placeAt counts t (threadAt ts t .position)
+placeOf counts ts (Goes t p) = placeAt counts t p
+placeOf counts ts (Waits t o) = 192
+
+-- "naming a runnable thread, else 23", and "0 or 1 (else 23)"
+abbrev pub isAllowed : Asked → List Thread → ℕ → Bool
+isAllowed asked.Nobody ts d = isRunnable (threadAt ts (record { 0 = d }) .state)
+isAllowed (asked.Thread t) ts d = leb d 1
+
+abbrev pub chosen : Asked → ℕ → Move
+chosen asked.Nobody d = Begins (record { 0 = d })
+chosen (asked.Thread t) d = Answers t (eqb d 1)

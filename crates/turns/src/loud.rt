@@ -1,33 +1,46 @@
-// The steps that change their object: an operation's effect, the end of a spurious wake, and the second half of a condvar wait.
+// The steps that change their object: an operation's effect, the end of a spurious wake, and the second half of a condvar wait. What is done
+// to the object and to the threads is in `run`, where they stand.
 ghost use mathlib.Core.Path.{_≡_};
-ghost use Rattle.turns.specs.Loud.{again, opIn, turnIn, askedIn, spurious, loudly, isWait, afterwards, settledBy, isFine, failedAs, nextOf, follows};
+ghost use Rattle.rules.specs.Ground.{withPosition};
+ghost use Rattle.rules.specs.Mutex.{withAccess as mutexAccessed};
+ghost use Rattle.rules.specs.RwLock.{withAccess as rwlockAccessed};
+ghost use Rattle.rules.specs.Condvar.{withAccess as condvarAccessed};
+ghost use Rattle.rules.specs.Notify.{withAccess as notifyAccessed};
+ghost use Rattle.turns.specs.Loud.{again, opIn, deedOf, deedIn, turnIn, askedIn, isWait, afterwards, parked, versionIn, stands, notedBy, notedAs, notedIn, isFine, failedAs, nextOf, comesTo, followsThen};
+use crate::quiet::who;
 use crate::step::Acting;
 use crate::step::Move;
 use crate::step::mutex_of;
 use crate::step::one_more_turn;
-use clocks::THREADS;
+use clocks::Clock;
 use clocks::ThreadId;
-use effects::effect::effect;
-use effects::turn::advance;
+use effects::turn::dependence;
 use effects::turn::one_more;
-use effects::turn::operate;
-use effects::turn::wait;
-use objects::notify;
-use objects::thread::get;
-use objects::thread::put;
+use objects::thread::has_unpark;
+use objects::thread::set_blocked;
 use objects::thread::set_runnable;
+use objects::thread::with_phase;
+use rules::access::Access;
 use rules::answer::Answer;
 use rules::answer::Spot;
+use rules::arc;
+use rules::cell;
 use rules::condvar;
+use rules::mpsc;
 use rules::mutex;
+use rules::notify;
+use rules::object::Action;
 use rules::object::Ending;
 use rules::object::Entry;
+use rules::object::Kind;
+use rules::object::ObjectId;
+use rules::object::Operation;
+use rules::rwlock;
 use rules::table::Call;
 use rules::table::Op;
 use rules::thread::Phase;
 use rules::thread::Thread;
 use rules::world::Asked;
-use rules::world::Effect;
 
 // A retaking thread takes its mutex.
 fn again(phase: Phase, op: Op) -> Op
@@ -55,7 +68,47 @@ pub fn op_in(phase: Phase, m: Move, op: Op) -> Op
         Move::Begins(_) => again(phase, op),
         Move::Answers(_, _) => op,
         Move::Goes(_, _) => op,
-        Move::Waits(_, _) => op,
+        Move::Waits(_, o) => Op {
+            call: Call::Mutex(mutex::Call::ReleaseLock),
+            object: o,
+        },
+    }
+}
+
+// What is done to an object: an operation of its kind, or a spurious wake.
+pub enum Deed {
+    Mutex(mutex::Call),
+    RwLock(rwlock::Call),
+    Condvar(condvar::Call),
+    Notify(notify::Call),
+    Channel(mpsc::Call),
+    Arc(arc::Call),
+    Cell(cell::Call),
+    Spurs,
+}
+
+fn deed_of(call: Call) -> Deed
+    ensures { λ r. ⌜ r ≡ deedOf call ⌝ }
+{
+    match call {
+        Call::Mutex(c) => Deed::Mutex(c),
+        Call::RwLock(c) => Deed::RwLock(c),
+        Call::Condvar(c) => Deed::Condvar(c),
+        Call::Notify(c) => Deed::Notify(c),
+        Call::Channel(c) => Deed::Channel(c),
+        Call::Arc(c) => Deed::Arc(c),
+        Call::Cell(c) => Deed::Cell(c),
+    }
+}
+
+pub fn deed_in(m: Move, call: Call) -> Deed
+    ensures { λ r. ⌜ r ≡ deedIn m call ⌝ }
+{
+    match m {
+        Move::Begins(_) => deed_of(call),
+        Move::Answers(_, _) => Deed::Spurs,
+        Move::Goes(_, _) => deed_of(call),
+        Move::Waits(_, _) => deed_of(call),
     }
 }
 
@@ -78,36 +131,6 @@ pub fn asked_in(m: Move, asked: Asked) -> Asked
         Move::Answers(_, _) => Asked::Nobody,
         Move::Goes(_, _) => asked,
         Move::Waits(_, _) => asked,
-    }
-}
-
-// The wait is done, and notified is untouched.
-fn spurious(t: ThreadId, e: Entry, threads: [Thread; THREADS]) -> Effect
-    ensures { λ r. ⌜ r ≡ spurious t e threads ⌝ }
-{
-    let mut entry = e;
-    let state = entry.notify;
-    entry.notify = notify::spur(state);
-    let x = set_runnable(get(threads, t));
-    let after = advance(t, put(threads, t, x));
-    Effect {
-        ending: Ending::Fine,
-        entry: entry,
-        threads: after,
-    }
-}
-
-// What a step does to its object and to the threads.
-pub fn loudly(m: Move, op: Op, n: u16, e: Entry, threads: [Thread; THREADS]) -> Effect
-    ensures { λ r. ⌜ r ≡ loudly m op n e threads ⌝ }
-{
-    let call = op.call;
-    let object = op.object;
-    match m {
-        Move::Begins(t) => operate(t, op, n, e, threads),
-        Move::Answers(t, _) => spurious(t, e, threads),
-        Move::Goes(t, _) => effect(call, t, object, e, threads),
-        Move::Waits(t, o) => wait(t, o, e, threads),
     }
 }
 
@@ -139,15 +162,104 @@ fn afterwards(call: Call, position: u8) -> u8
     one_more(position)
 }
 
-// How many operations the thread that acted has done, after a step that was fine.
-pub fn settled(m: Move, call: Call, position: u8) -> u8
-    ensures { λ r. ⌜ r ≡ settledBy m call position ⌝ }
+fn with_position(x: Thread, p: u8) -> Thread
+    ensures { λ r. ⌜ r ≡ withPosition x p ⌝ }
+{
+    let mut y = x;
+    y.position = p;
+    y
+}
+
+// A stored unpark is used up, and the thread goes on to retake the mutex; without one it is parked.
+fn parked(m: ObjectId, x: Thread) -> Thread
+    ensures { λ r. ⌜ r ≡ parked m x ⌝ }
+{
+    let state = x.state;
+    if has_unpark(state) {
+        return with_phase(
+            set_runnable(x),
+            Phase::Retaking(Operation {
+                obj: m,
+                action: Action::Opaque,
+            }),
+        );
+    }
+    with_phase(set_blocked(x), Phase::Parked)
+}
+
+// The dependence clock of the thread that acts.
+pub fn version(m: Move, action: Action, e: Entry, x: Thread) -> Clock
+    ensures { λ r. ⌜ r ≡ versionIn m action e x ⌝ }
 {
     match m {
-        Move::Begins(_) => afterwards(call, position),
-        Move::Answers(_, _) => position,
-        Move::Goes(_, _) => one_more(position),
-        Move::Waits(_, _) => position,
+        Move::Begins(t) => dependence(t, action, e, x),
+        Move::Answers(_, _) => x.dependence,
+        Move::Goes(_, _) => x.dependence,
+        Move::Waits(_, _) => x.dependence,
+    }
+}
+
+// The thread that acted, after a step that was fine.
+pub fn stands(m: Move, call: Call, v: Clock, x: Thread) -> Thread
+    ensures { λ r. ⌜ r ≡ stands m call v x ⌝ }
+{
+    match m {
+        Move::Begins(_) => {
+            let mut y = with_phase(x, Phase::Nothing);
+            y.dependence = v;
+            with_position(y, afterwards(call, x.position))
+        }
+        Move::Answers(_, _) => with_position(set_runnable(x), one_more(x.position)),
+        Move::Goes(_, _) => with_position(x, one_more(x.position)),
+        Move::Waits(_, o) => parked(o, x),
+    }
+}
+
+// Where an access is recorded.
+pub enum Noted {
+    Mutex,
+    RwLock,
+    Condvar,
+    Notify,
+    Channel(mpsc::Action),
+    Arc(arc::Action),
+    Nowhere,
+}
+
+fn noted_by(kind: Kind) -> Noted
+    ensures { λ r. ⌜ r ≡ notedBy kind ⌝ }
+{
+    match kind {
+        Kind::Mutex => Noted::Mutex,
+        Kind::RwLock => Noted::RwLock,
+        Kind::Condvar => Noted::Condvar,
+        Kind::Notify => Noted::Notify,
+        Kind::Channel => Noted::Nowhere,
+        Kind::Arc => Noted::Nowhere,
+        Kind::Cell => Noted::Nowhere,
+        Kind::Nothing => Noted::Nowhere,
+    }
+}
+
+fn noted_as(action: Action, kind: Kind) -> Noted
+    ensures { λ r. ⌜ r ≡ notedAs action kind ⌝ }
+{
+    match action {
+        Action::Arc(a) => Noted::Arc(a),
+        Action::Channel(a) => Noted::Channel(a),
+        Action::RwLock(_) => noted_by(kind),
+        Action::Opaque => noted_by(kind),
+    }
+}
+
+pub fn noted_in(m: Move, action: Action, kind: Kind) -> Noted
+    ensures { λ r. ⌜ r ≡ notedIn m action kind ⌝ }
+{
+    match m {
+        Move::Begins(_) => noted_as(action, kind),
+        Move::Answers(_, _) => Noted::Nowhere,
+        Move::Goes(_, _) => Noted::Nowhere,
+        Move::Waits(_, _) => Noted::Nowhere,
     }
 }
 
@@ -184,32 +296,59 @@ fn next_of(call: Call, t: ThreadId, p: u8) -> Acting
     Acting::Moves(Move::Goes(t, p))
 }
 
-// Who acts after such a step of a thread that stood at `position`.
-pub fn follows(ending: Ending, m: Move, op: Op, position: u8) -> Acting
-    ensures { λ r. ⌜ r ≡ follows ending m op position ⌝ }
+// Who acts after what was done to the object: a failing step is a verdict, and after another one the thread settles.
+pub fn comes_to(ending: Ending, m: Move, op: Op, position: u8) -> Acting
+    ensures { λ r. ⌜ r ≡ comesTo ending m op position ⌝ }
 {
-    let call = op.call;
     let o = op.object;
+    let spot = Spot {
+        thread: who(m),
+        position: position,
+        object: o,
+    };
+    failed_as(ending, spot, Acting::Settles(m, op))
+}
+
+// Who acts after a thread that stood at `position` has settled.
+pub fn follows(m: Move, call: Call, position: u8) -> Acting
+    ensures { λ r. ⌜ r ≡ followsThen m call position ⌝ }
+{
     match m {
-        Move::Begins(t) => failed_as(
-            ending,
-            Spot {
-                thread: t,
-                position: position,
-                object: o,
-            },
-            next_of(call, t, one_more(position)),
-        ),
+        Move::Begins(t) => next_of(call, t, one_more(position)),
         Move::Answers(_, _) => Acting::Over,
-        Move::Goes(t, p) => failed_as(
-            ending,
-            Spot {
-                thread: t,
-                position: position,
-                object: o,
-            },
-            Acting::Moves(Move::Goes(t, one_more(p))),
-        ),
+        Move::Goes(t, p) => Acting::Moves(Move::Goes(t, one_more(p))),
         Move::Waits(_, _) => Acting::Over,
     }
+}
+
+pub fn mutex_accessed(s: mutex::State, x: Access) -> mutex::State
+    ensures { λ r. ⌜ r ≡ mutexAccessed s x ⌝ }
+{
+    let mut q = s;
+    q.last_access = x;
+    q
+}
+
+pub fn rwlock_accessed(s: rwlock::State, x: Access) -> rwlock::State
+    ensures { λ r. ⌜ r ≡ rwlockAccessed s x ⌝ }
+{
+    let mut q = s;
+    q.last_access = x;
+    q
+}
+
+pub fn condvar_accessed(s: condvar::State, x: Access) -> condvar::State
+    ensures { λ r. ⌜ r ≡ condvarAccessed s x ⌝ }
+{
+    let mut q = s;
+    q.last_access = x;
+    q
+}
+
+pub fn notify_accessed(s: notify::State, x: Access) -> notify::State
+    ensures { λ r. ⌜ r ≡ notifyAccessed s x ⌝ }
+{
+    let mut q = s;
+    q.last_access = x;
+    q
 }

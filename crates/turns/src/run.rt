@@ -3,18 +3,28 @@ ghost use mathlib.Core.Path.{_≡_};
 ghost use Rattle.lists.specs.Judge.{judge};
 ghost use Rattle.rules.specs.Judge.{step};
 ghost use Rattle.turns.specs.Quiet.{placeIn, allowedIn};
-ghost use Rattle.turns.specs.Run.{placeAt, chosen, after, ranOf};
+ghost use Rattle.turns.specs.Run.{after, ranOf};
+ghost use Rattle.turns.specs.Step.{placeAt, chosen};
 use crate::after::all_ended;
 use crate::after::any_runnable;
 use crate::after::leak_check;
 use crate::after::stuck;
+use crate::loud::Deed;
+use crate::loud::Noted;
 use crate::loud::asked_in;
+use crate::loud::comes_to;
+use crate::loud::condvar_accessed;
+use crate::loud::deed_in;
 use crate::loud::follows;
 use crate::loud::is_fine;
-use crate::loud::loudly;
+use crate::loud::mutex_accessed;
+use crate::loud::noted_in;
+use crate::loud::notify_accessed;
 use crate::loud::op_in;
-use crate::loud::settled;
+use crate::loud::rwlock_accessed;
+use crate::loud::stands;
 use crate::loud::turn_in;
+use crate::loud::version;
 use crate::quiet::is_barred;
 use crate::quiet::is_begun;
 use crate::quiet::is_quiet;
@@ -25,10 +35,22 @@ use crate::step::Move;
 use crate::step::subject;
 use clocks::THREADS;
 use clocks::ThreadId;
+use effects::announce::action_of;
 use effects::announce::asks;
+use effects::parts::arc_effect;
+use effects::parts::cell_effect;
+use effects::parts::channel_effect;
+use effects::parts::condvar_effect;
+use effects::parts::mutex_effect;
+use effects::parts::notify_effect;
+use effects::parts::rwlock_effect;
+use objects::arc;
+use objects::mpsc;
+use objects::notify;
 use objects::object;
 use objects::thread::absent;
 use objects::thread::is_runnable;
+use rules::access::Access;
 use rules::answer::Answer;
 use rules::object::Entry;
 use rules::object::OBJECTS;
@@ -161,7 +183,8 @@ pub fn run(table: Table, world: World, list: &[u8]) -> Ran
             }
             Acting::Moves(m) => {
                 let counts = table.counts;
-                let i = who(m).0 as usize;
+                let t = who(m);
+                let i = t.0 as usize;
                 let x = if i < THREADS { threads[i] } else { absent() };
                 let phase = x.phase;
                 let k = place_of(counts, x.position, m);
@@ -185,30 +208,219 @@ pub fn run(table: Table, world: World, list: &[u8]) -> Ran
                         threads[i] = y;
                     }
                 } else {
-                    let e = if o < OBJECTS {
-                        objects[o]
-                    } else {
-                        object::absent()
-                    };
                     let work = op_in(phase, m, op);
-                    let n = turn_in(m, turn);
-                    let r = loudly(m, work, n, e, threads);
-                    let ending = r.ending;
-                    acting = follows(ending, m, work, x.position);
-                    if is_fine(ending) {
-                        let entry = r.entry;
-                        threads = r.threads;
-                        if i < THREADS {
-                            let work_call = work.call;
-                            let stood = threads[i].position;
-                            let stands = settled(m, work_call, stood);
-                            threads[i].position = stands;
+                    let work_call = work.call;
+                    let object = work.object;
+                    let mut e = object::absent();
+                    match deed_in(m, work_call) {
+                        Deed::Mutex(c) => {
+                            if o < OBJECTS {
+                                e = objects[o];
+                            }
+                            let s = e.mutex;
+                            let r = mutex_effect(c, t, object, s, threads);
+                            let ending = r.ending;
+                            acting = comes_to(ending, m, work, x.position);
+                            if is_fine(ending) {
+                                threads = r.threads;
+                                if o < OBJECTS {
+                                    e = objects[o];
+                                    let q = r.state;
+                                    e.mutex = q;
+                                    objects[o] = e;
+                                }
+                            }
                         }
-                        turn = n;
-                        asked = asked_in(m, asked);
-                        if o < OBJECTS {
-                            objects[o] = entry;
+                        Deed::RwLock(c) => {
+                            if o < OBJECTS {
+                                e = objects[o];
+                            }
+                            let s = e.rwlock;
+                            let r = rwlock_effect(c, t, object, s, threads);
+                            let ending = r.ending;
+                            acting = comes_to(ending, m, work, x.position);
+                            if is_fine(ending) {
+                                threads = r.threads;
+                                if o < OBJECTS {
+                                    e = objects[o];
+                                    let q = r.state;
+                                    e.rwlock = q;
+                                    objects[o] = e;
+                                }
+                            }
                         }
+                        Deed::Condvar(c) => {
+                            if o < OBJECTS {
+                                e = objects[o];
+                            }
+                            let s = e.condvar;
+                            let r = condvar_effect(c, t, s, threads);
+                            let ending = r.ending;
+                            acting = comes_to(ending, m, work, x.position);
+                            if is_fine(ending) {
+                                threads = r.threads;
+                                if o < OBJECTS {
+                                    e = objects[o];
+                                    let q = r.state;
+                                    e.condvar = q;
+                                    objects[o] = e;
+                                }
+                            }
+                        }
+                        Deed::Notify(c) => {
+                            if o < OBJECTS {
+                                e = objects[o];
+                            }
+                            let s = e.notify;
+                            let r = notify_effect(c, t, object, s, threads);
+                            let ending = r.ending;
+                            acting = comes_to(ending, m, work, x.position);
+                            if is_fine(ending) {
+                                threads = r.threads;
+                                if o < OBJECTS {
+                                    e = objects[o];
+                                    let q = r.state;
+                                    e.notify = q;
+                                    objects[o] = e;
+                                }
+                            }
+                        }
+                        Deed::Channel(c) => {
+                            if o < OBJECTS {
+                                e = objects[o];
+                            }
+                            let s = e.channel;
+                            let r = channel_effect(c, t, object, s, threads);
+                            let ending = r.ending;
+                            acting = comes_to(ending, m, work, x.position);
+                            if is_fine(ending) {
+                                threads = r.threads;
+                                if o < OBJECTS {
+                                    e = objects[o];
+                                    let q = r.state;
+                                    e.channel = q;
+                                    objects[o] = e;
+                                }
+                            }
+                        }
+                        Deed::Arc(c) => {
+                            if o < OBJECTS {
+                                e = objects[o];
+                            }
+                            let s = e.arc;
+                            let r = arc_effect(c, t, s, threads);
+                            let ending = r.ending;
+                            acting = comes_to(ending, m, work, x.position);
+                            if is_fine(ending) {
+                                threads = r.threads;
+                                if o < OBJECTS {
+                                    e = objects[o];
+                                    let q = r.state;
+                                    e.arc = q;
+                                    objects[o] = e;
+                                }
+                            }
+                        }
+                        Deed::Cell(c) => {
+                            if o < OBJECTS {
+                                e = objects[o];
+                            }
+                            let s = e.cell;
+                            let r = cell_effect(c, t, s, threads);
+                            let ending = r.ending;
+                            acting = comes_to(ending, m, work, x.position);
+                            if is_fine(ending) {
+                                threads = r.threads;
+                                if o < OBJECTS {
+                                    e = objects[o];
+                                    let q = r.state;
+                                    e.cell = q;
+                                    objects[o] = e;
+                                }
+                            }
+                        }
+                        Deed::Spurs => {
+                            acting = Acting::Settles(m, work);
+                            if o < OBJECTS {
+                                e = objects[o];
+                                let s = e.notify;
+                                let q = notify::spur(s);
+                                e.notify = q;
+                                objects[o] = e;
+                            }
+                        }
+                    }
+                }
+            }
+            Acting::Settles(m, work) => {
+                let t = who(m);
+                let i = t.0 as usize;
+                let x = if i < THREADS { threads[i] } else { absent() };
+                let work_call = work.call;
+                let p = work.object;
+                let o = p.0 as usize;
+                let mut e = object::absent();
+                if o < OBJECTS {
+                    e = objects[o];
+                }
+                let action = action_of(work_call);
+                let v = version(m, action, e, x);
+                turn = turn_in(m, turn);
+                asked = asked_in(m, asked);
+                acting = follows(m, work_call, x.position);
+                if i < THREADS {
+                    threads[i] = stands(m, work_call, v, x);
+                }
+                if o < OBJECTS {
+                    let kind = e.kind;
+                    let access = Access {
+                        path_id: turn,
+                        version: v,
+                    };
+                    match noted_in(m, action, kind) {
+                        Noted::Mutex => {
+                            e = objects[o];
+                            let s = e.mutex;
+                            let q = mutex_accessed(s, access);
+                            e.mutex = q;
+                            objects[o] = e;
+                        }
+                        Noted::RwLock => {
+                            e = objects[o];
+                            let s = e.rwlock;
+                            let q = rwlock_accessed(s, access);
+                            e.rwlock = q;
+                            objects[o] = e;
+                        }
+                        Noted::Condvar => {
+                            e = objects[o];
+                            let s = e.condvar;
+                            let q = condvar_accessed(s, access);
+                            e.condvar = q;
+                            objects[o] = e;
+                        }
+                        Noted::Notify => {
+                            e = objects[o];
+                            let s = e.notify;
+                            let q = notify_accessed(s, access);
+                            e.notify = q;
+                            objects[o] = e;
+                        }
+                        Noted::Channel(a) => {
+                            e = objects[o];
+                            let s = e.channel;
+                            let q = mpsc::set_last_access(a, access, s);
+                            e.channel = q;
+                            objects[o] = e;
+                        }
+                        Noted::Arc(a) => {
+                            e = objects[o];
+                            let s = e.arc;
+                            let q = arc::set_last_access(a, access, s);
+                            e.arc = q;
+                            objects[o] = e;
+                        }
+                        Noted::Nowhere => {}
                     }
                 }
             }

@@ -31,6 +31,8 @@ pub enum Acting {
     // The next decision is wanted.
     Nobody,
     Moves(Move),
+    // What was done was fine: it is recorded, and the thread goes on.
+    Settles(Move, Op),
     // The turn is over.
     Over,
     AllEnded,

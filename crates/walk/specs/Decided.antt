@@ -20,7 +20,8 @@ use Rattle.rules.specs.Walk.{decisions}
 use Rattle.turns.specs.declared.run.End.{End}
 use Rattle.turns.specs.declared.run.End.the-variants as end
 use Rattle.turns.specs.declared.run.Ran.{Ran}
-use Rattle.turns.specs.Run.{isAllowed, ranOf}
+use Rattle.turns.specs.Run.{ranOf}
+use Rattle.turns.specs.Step.{isAllowed}
 use Rattle.turns.specs.Quiet.{allowedIn}
 use Rattle.walk.specs.declared.walk.Progress.{Progress}
 use Rattle.walk.specs.Allowed.{allowed-is}

@@ -23,7 +23,7 @@ use Rattle.rules.specs.Table.{opsOf}
 use Rattle.rules.specs.Turn.{anyRunnable, decide}
 use Rattle.rules.specs.Walk.{left}
 use Rattle.rules.specs.Judge.{Verdict, outcomeOf, step}
-use Rattle.turns.specs.Run.{isAllowed}
+use Rattle.turns.specs.Step.{isAllowed}
 use Rattle.walk.specs.Allowed.{allowed-is}
 use Rattle.walk.specs.Falling.{Good, Then, Ready, decide-then}
 

@@ -24,7 +24,8 @@ use Rattle.rules.specs.Turn.{start}
 use Rattle.rules.specs.Judge.{Verdict, step}
 use Rattle.rules.specs.Walk.{decisions, left}
 use Rattle.turns.specs.declared.run.End.the-variants as end
-use Rattle.turns.specs.Run.{isAllowed, ranOf}
+use Rattle.turns.specs.Run.{ranOf}
+use Rattle.turns.specs.Step.{isAllowed}
 use Rattle.walk.specs.declared.walk.Mark.{Mark}
 use Rattle.walk.specs.Falling.{Good}
 use Rattle.walk.specs.Machine.{bounded, some-allowed, keeps, falls}

@@ -6,7 +6,7 @@ ghost use lib.ListN.{length, take, drop};
 ghost use Rattle.lists.specs.Greedy.{seek};
 ghost use Rattle.rules.specs.Judge.{step};
 ghost use Rattle.rules.specs.Walk.{handOver, firstOf, nextOf};
-ghost use Rattle.turns.specs.Run.{isAllowed};
+ghost use Rattle.turns.specs.Step.{isAllowed};
 ghost use Rattle.walk.specs.Says.{isOver, stageOf, Completed, Marked, Started, PassSays, Raisable, raisedTo};
 use clocks::THREADS;
 use clocks::ThreadId;

@@ -18,8 +18,8 @@ enum-told-2 c = search needs
 enum-told-3 : tie.Need-enum-told-3
 enum-told-3 c = search needs
 
-enum-told-4 : tie.Need-enum-told-4
-enum-told-4 c = search needs
+enum-known-m : tie.Need-enum-known-m
+enum-known-m c = search needs
 
 returns : tie.Need-returns
 returns c = let a = c .before .before .before .args in c .again .ensures ∙ sym (ap (λ (m : Move). opIn (a .phase) m (a .op)) (c .before .enum-told .given .1))
@@ -31,7 +31,7 @@ returns-3 : tie.Need-returns-3
 returns-3 c = search needs
 
 returns-4 : tie.Need-returns-4
-returns-4 c = search needs
+returns-4 c = let a = c .before .before .before .args in sym (ap (λ (m : Move). opIn (a .phase) m (a .op)) (c .before .m .given .1))
 
 pub op-in-spec : {M : Type 1} → statement M
 op-in-spec =
@@ -41,7 +41,7 @@ op-in-spec =
     again-requires
     enum-told-2
     enum-told-3
-    enum-told-4
+    enum-known-m
     returns
     returns-2
     returns-3

@@ -1,7 +1,7 @@
 -- `run::chosen` meets its contract.
 use mathlib.Core.Path.{sym, ap}
 use Rattle.rules.specs.declared.world.Asked.{Asked}
-use Rattle.turns.specs.Run.{chosen}
+use Rattle.turns.specs.Step.{chosen}
 use borrow.Author.Needs.{needs}
 use Rattle.turns.proofs.run.chosen.Statement.{statement}
 use Rattle.turns.proofs.run.chosen.Tie as tie

@@ -1,9 +1,9 @@
 -- `run::run` meets its contract: what is left of the list's judgement stays the same from step to step.
 use mathlib.Core.Path.{_≡_, refl, sym, _∙_, ap, subst}
-use mathlib.Core.Bool.{Bool, false}
+use mathlib.Core.Bool.{Bool, true, false}
 use mathlib.Core.List.{List}
 use mathlib.Core.Logic.{inl, inr}
-use Prim.Native.Nat.{ℕ, _+_, _-_, _*_, _<_}
+use Prim.Native.Nat.{ℕ, _+_, _-_, _*_, _≤_, _<_}
 use native.Mathlib.Omega.{arith}
 use lib.Dec.{ltb}
 use lib.ListN.{length, getD, set, length-set, length-map, List·getD-eq-default}
@@ -12,23 +12,32 @@ use borrow.Author.Tests.{not-true, not-false}
 use borrow.Author.Needs.{needs}
 use Rattle.clocks.specs.Lists.{getD-within}
 use Rattle.clocks.specs.declared.thread.ThreadId.{ThreadId}
+use Rattle.rules.specs.declared.access.Access.{Access}
+use Rattle.rules.specs.declared.notify.State.{State as NotifyState}
 use Rattle.rules.specs.declared.object.Entry.{Entry}
+use Rattle.rules.specs.declared.object.Ending.the-variants as ending
 use Rattle.rules.specs.declared.thread.Thread.{Thread}
 use Rattle.rules.specs.declared.table.Op.{Op}
 use Rattle.rules.specs.declared.table.Table.{Table}
 use Rattle.rules.specs.declared.world.Effect.{Effect}
 use Rattle.rules.specs.declared.world.World.{World}
-use Rattle.rules.specs.Ground.{withPosition, threadAt, putThread}
-use Rattle.rules.specs.Object.{entryAt, putEntry}
+use Rattle.rules.specs.Ground.{threadAt, putThread}
+use Rattle.rules.specs.Object.{putMutex, putRwLock, putCondvar, putNotify, putChannel, putArc, putCell, newEntry, noObject, entryAt, putEntry}
+use Rattle.rules.specs.Notify.{spur}
 use Rattle.rules.specs.Announce.{asks}
+use Rattle.effects.specs.Parts.{inMutex, inRwLock, inCondvar, inNotify, inChannel, inArc, inCell}
+use Rattle.turns.specs.declared.loud.Noted.{Noted}
 use Rattle.turns.specs.declared.step.Move.{Move}
+use Rattle.turns.specs.declared.step.Acting.{Acting}
+use Rattle.turns.specs.declared.step.Acting.the-variants.{Moves, Settles}
 use Rattle.turns.specs.declared.step.Moved.{Moved}
 use Rattle.turns.specs.declared.step.Scene.{Scene}
 use Rattle.turns.specs.declared.quiet.Quiet.{Quiet}
-use Rattle.turns.specs.Step.{act}
+use Rattle.turns.specs.Step.{act, placeOf, isAllowed, chosen}
 use Rattle.turns.specs.Quiet.{who, isBegun, subjectIn, subject-in, placeIn, place-in, allowedIn, allowed-in, isQuiet, isBarred, quietly, stayed, quiet-law}
-use Rattle.turns.specs.Loud.{opIn, loudly, settledBy, positionBy, isFine, follows, work, doneBy, loud-fine, loud-fails}
-use Rattle.turns.specs.Run.{placeOf, isAllowed, chosen, Running, weight}
+use Rattle.turns.specs.Loud.{opIn, deedIn, does, versionIn, stands, notedIn, note, changed, isFine, failedAs, comesTo, followsThen, work, doneBy, spurred, does-mutex, does-rwlock, does-condvar, does-notify, does-channel, does-arc, does-cell, does-spurs, note-mutex, note-rwlock, note-condvar, note-notify, note-channel, note-arc, note-nowhere}
+use Rattle.turns.specs.Settling.{done-fine, done-fails, done-less, version, settled-on, settled-less}
+use Rattle.turns.specs.Run.{rest, Running, weight}
 use Rattle.turns.specs.Running.{begun, ran-out, not-allowed, surplus-left, verdict-reached, decision, decision-less, Found, acted, acted-less, turn-over, turn-over-less, all-ended, all-ended-less, taken-there, taken-none, op-there, op-none}
 use Rattle.turns.proofs.run.run.Statement.{statement}
 use Rattle.turns.proofs.run.run.Tie as tie
@@ -39,7 +48,7 @@ Inv-loop world list table threads₀ objects₀ turn₀ asked₀ acting₀ at₀
 
 abbrev μ-loop : tie.MeasureT-loop
 μ-loop world list table threads₀ objects₀ turn₀ asked₀ acting₀ at₀ threads objects turn asked acting at =
-    2000 * (length list - at) + weight acting
+    4000 * (length list - at) + weight acting
 
 -- what the loop was given, and where it stands
 module _ (c : tie.At-loop Inv-loop μ-loop) where
@@ -180,98 +189,297 @@ module _ (c : tie.After-y Inv-loop μ-loop) where
   quiet-next : Running (table (here calm)) (list (here calm)) (given (here calm)) (putThread (ts (here calm)) (t calm) (q .thread)) (es (here calm)) (q .turn) (q .asked) (q .acting) (here calm .loop .at)
   quiet-next = same calm e out _ stays refl
 
--- a step that changes its object
-module _ (c : tie.After-is-fine Inv-loop μ-loop) where
+-- the move that is made
+module _ (c : tie.After-is-quiet Inv-loop μ-loop) where
+  moves : here c .loop .acting ≡ Moves (m c)
+  moves = c .before .before .before .before .before .before .before .before .before .before .acting .given .1
+
+-- before what is done to the object
+module _ (c : tie.After-deed-in Inv-loop μ-loop) where
   abbrev loud : tie.After-is-quiet Inv-loop μ-loop
-  loud = c .before .before .before .before .before .before .before
+  loud = c .before .before .before .before .before
 
   abbrev it : Entry
-  it = c .before .before .before .before .before .if9 .e
+  it = entryAt (es (here loud)) (about loud .object)
 
-  taken : it ≡ entryAt (es (here loud)) (about loud .object)
-  taken =
-      elim (c .before .before .before .before .before .if9 .came) [
-        | inl w ↦ w .2 ∙ taken-there (es (here loud)) (about loud .object .0) _ (omega (arith, w .0 .taken, runs (here loud) .all))
-        | inr w ↦ w .2 ∙ w .1 .ensures ∙ taken-none (es (here loud)) (about loud .object .0) (omega (arith, w .0 .left, runs (here loud) .all))
+  is-loud : isQuiet (threadAt (ts (here loud)) (who (m loud)) .phase) (m loud) (about loud .left) (about loud .op .call) ≡ false
+  is-loud = told loud ∙ c .before .before .before .before .if6 .left
+
+  abbrev work' : Op
+  work' = c .before .before .before .op-in .result
+
+  abbrev by-rule : Op
+  by-rule = work (about loud .op) (sceneWith loud it) (m loud)
+
+  is-work : work' ≡ by-rule
+  is-work = c .before .before .before .op-in .ensures ∙ ap (λ (y : Thread). opIn (y .phase) (m loud) (about loud .op)) (seen loud)
+
+  is-who : t loud ≡ who (m loud)
+  is-who = c .before .before .before .before .before .before .before .before .before .before .before .before .who2 .ensures
+
+  abbrev done : Effect
+  done = doneBy (about loud .op) (sceneWith loud it) (m loud) by-rule
+
+  abbrev done' : Effect
+  done' = does (c .deed-in .result) (t loud) (work' .object) it (ts (here loud))
+
+  is-done : done' ≡ done
+  is-done =
+      let is-deed = c .deed-in .ensures ∙ ap (λ (w : Op). deedIn (m loud) (w .call)) is-work in
+      λ i. does (is-deed i) (is-who i) (is-work i .object) it (ts (here loud))
+
+  -- the object as it is read and put back
+  there : (d : Entry) → about loud .object .0 < 16 → getD (es (here loud)) (about loud .object .0) d ≡ it
+  there d h = taken-there (es (here loud)) (about loud .object .0) d (omega (arith, h, runs (here loud) .all))
+
+  nowhere : 16 ≤ about loud .object .0 → newEntry noObject ≡ it
+  nowhere h = taken-none (es (here loud)) (about loud .object .0) (omega (arith, h, runs (here loud) .all))
+
+  unput : (e : Entry) → 16 ≤ about loud .object .0 → es (here loud) ≡ putEntry (es (here loud)) (about loud .object) e
+  unput e h = sym (set-out (es (here loud)) (about loud .object .0) e (omega (arith, h, runs (here loud) .all)))
+
+  -- what is left of the run, by what the arm did
+  module _ (r : Effect) (is : done' ≡ r) (a : Acting) (comes : a ≡ comesTo (r .ending) (m loud) work' (c .before .before .before .before .before .before .before .before .before .before .if4 .x .position)) where
+    is-r : done ≡ r
+    is-r = sym is-done ∙ is
+
+    is-next : a ≡ comesTo (done .ending) (m loud) by-rule (threadAt (ts (here loud)) (who (m loud)) .position)
+    is-next = comes ∙ (λ i. comesTo (sym is-r i .ending) (m loud) (is-work i) (seen loud i .position))
+
+    arm-less : weight a < weight (here loud .loop .acting)
+    arm-less =
+        let h = done-less (runs (here loud)) (m loud) (moves loud) (long (here loud)) (about loud) is-loud (done .ending) in
+        let p : weight a ≡ weight (comesTo (done .ending) (m loud) by-rule (threadAt (ts (here loud)) (who (m loud)) .position)) = ap weight is-next in
+        omega (arith, h, p)
+
+    arm-kept : isFine (r .ending) ≡ true → (fs : List Entry) → fs ≡ putEntry (es (here loud)) (about loud .object) (r .entry)
+        → Running (table (here loud)) (list (here loud)) (given (here loud)) (r .threads) fs (here loud .loop .turn) (here loud .loop .asked) a (here loud .loop .at)
+    arm-kept h fs p =
+        let run = done-fine (runs (here loud)) (m loud) (moves loud) (long (here loud)) (about loud) is-loud (ap (λ (y : Effect). isFine (y .ending)) is-r ∙ h) in
+        let put = ap (λ (y : Effect). putEntry (es (here loud)) (about loud .object) (y .entry)) is-r ∙ sym p in
+        let next' = sym is-next in
+        record {
+          judged = run .judged ∙ (λ i. rest (table (here loud)) (list (here loud)) (here loud .loop .at) (next' i) (record { threads = is-r i .threads; objects = put i; turn = here loud .loop .turn; asked = here loud .loop .asked }));
+          all = ap (λ (gs : List Entry). length gs) p ∙ length-set (es (here loud)) (about loud .object .0) (r .entry) ∙ runs (here loud) .all;
+        }
+
+    arm-left : isFine (r .ending) ≡ false
+        → Running (table (here loud)) (list (here loud)) (given (here loud)) (ts (here loud)) (es (here loud)) (here loud .loop .turn) (here loud .loop .asked) a (here loud .loop .at)
+    arm-left h =
+        subst (λ (b : Acting). Running (table (here loud)) (list (here loud)) (given (here loud)) (ts (here loud)) (es (here loud)) (here loud .loop .turn) (here loud .loop .asked) b (here loud .loop .at)) (sym is-next)
+        (done-fails (runs (here loud)) (m loud) (moves loud) (long (here loud)) (about loud) is-loud (ap (λ (y : Effect). isFine (y .ending)) is-r ∙ h))
+
+-- what is done to a mutex
+module _ (c : tie.After-comes-to Inv-loop μ-loop) where
+  mutex-is : done' (c .before .before .before .before .before .before .before) ≡ inMutex (it (c .before .before .before .before .before .before .before)) (c .before .mutex-effect .result)
+  mutex-is =
+      let same : c .before .before .before .if9 .e ≡ it (c .before .before .before .before .before .before .before) =
+      elim (c .before .before .before .if9 .came) [
+        | inl w ↦ w .2 ∙ there (c .before .before .before .before .before .before .before) _ (w .0 .taken)
+        | inr w ↦ w .1 ∙ c .before .before .before .before .before .before .before .before .absent4 .ensures ∙ nowhere (c .before .before .before .before .before .before .before) (w .0 .left)
+      ] in
+      does-mutex (t (loud (c .before .before .before .before .before .before .before))) (work' (c .before .before .before .before .before .before .before) .object) (ts (here (loud (c .before .before .before .before .before .before .before)))) same (c .before .before .before .before .before .c .given .1) (c .before .mutex-effect .ensures)
+
+  mutex-six : length (c .before .mutex-effect .result .threads) ≡ 6
+  mutex-six = sym (length-map (c .before .mutex-effect .result .threads) _) ∙ c .before .mutex-effect .ok .1 .1 .1 .1 .0 .1 .0 .1
+
+  mutex-less : weight (c .comes-to .result) < weight (here (loud (c .before .before .before .before .before .before .before)) .loop .acting)
+  mutex-less = arm-less (c .before .before .before .before .before .before .before) _ mutex-is (c .comes-to .result) (c .comes-to .ensures)
+
+-- what is done to a rwlock
+module _ (c : tie.After-comes-to2 Inv-loop μ-loop) where
+  rwlock-is : done' (c .before .before .before .before .before .before .before) ≡ inRwLock (it (c .before .before .before .before .before .before .before)) (c .before .rwlock-effect .result)
+  rwlock-is =
+      let same : c .before .before .before .if12 .e ≡ it (c .before .before .before .before .before .before .before) =
+      elim (c .before .before .before .if12 .came) [
+        | inl w ↦ w .2 ∙ there (c .before .before .before .before .before .before .before) _ (w .0 .taken)
+        | inr w ↦ w .1 ∙ c .before .before .before .before .before .before .before .before .absent4 .ensures ∙ nowhere (c .before .before .before .before .before .before .before) (w .0 .left)
+      ] in
+      does-rwlock (t (loud (c .before .before .before .before .before .before .before))) (work' (c .before .before .before .before .before .before .before) .object) (ts (here (loud (c .before .before .before .before .before .before .before)))) same (c .before .before .before .before .before .c2 .given .1) (c .before .rwlock-effect .ensures)
+
+  rwlock-six : length (c .before .rwlock-effect .result .threads) ≡ 6
+  rwlock-six = sym (length-map (c .before .rwlock-effect .result .threads) _) ∙ c .before .rwlock-effect .ok .1 .1 .1 .1 .0 .1 .0 .1
+
+  rwlock-less : weight (c .comes-to2 .result) < weight (here (loud (c .before .before .before .before .before .before .before)) .loop .acting)
+  rwlock-less = arm-less (c .before .before .before .before .before .before .before) _ rwlock-is (c .comes-to2 .result) (c .comes-to2 .ensures)
+
+-- what is done to a condvar
+module _ (c : tie.After-comes-to3 Inv-loop μ-loop) where
+  condvar-is : done' (c .before .before .before .before .before .before .before) ≡ inCondvar (it (c .before .before .before .before .before .before .before)) (c .before .condvar-effect .result)
+  condvar-is =
+      let same : c .before .before .before .if15 .e ≡ it (c .before .before .before .before .before .before .before) =
+      elim (c .before .before .before .if15 .came) [
+        | inl w ↦ w .2 ∙ there (c .before .before .before .before .before .before .before) _ (w .0 .taken)
+        | inr w ↦ w .1 ∙ c .before .before .before .before .before .before .before .before .absent4 .ensures ∙ nowhere (c .before .before .before .before .before .before .before) (w .0 .left)
+      ] in
+      does-condvar (t (loud (c .before .before .before .before .before .before .before))) (work' (c .before .before .before .before .before .before .before) .object) (ts (here (loud (c .before .before .before .before .before .before .before)))) same (c .before .before .before .before .before .c3 .given .1) (c .before .condvar-effect .ensures)
+
+  condvar-six : length (c .before .condvar-effect .result .threads) ≡ 6
+  condvar-six = sym (length-map (c .before .condvar-effect .result .threads) _) ∙ c .before .condvar-effect .ok .1 .1 .1 .1 .0 .1 .0 .1
+
+  condvar-less : weight (c .comes-to3 .result) < weight (here (loud (c .before .before .before .before .before .before .before)) .loop .acting)
+  condvar-less = arm-less (c .before .before .before .before .before .before .before) _ condvar-is (c .comes-to3 .result) (c .comes-to3 .ensures)
+
+-- what is done to a notify
+module _ (c : tie.After-comes-to4 Inv-loop μ-loop) where
+  notify-is : done' (c .before .before .before .before .before .before .before) ≡ inNotify (it (c .before .before .before .before .before .before .before)) (c .before .notify-effect .result)
+  notify-is =
+      let same : c .before .before .before .if18 .e ≡ it (c .before .before .before .before .before .before .before) =
+      elim (c .before .before .before .if18 .came) [
+        | inl w ↦ w .2 ∙ there (c .before .before .before .before .before .before .before) _ (w .0 .taken)
+        | inr w ↦ w .1 ∙ c .before .before .before .before .before .before .before .before .absent4 .ensures ∙ nowhere (c .before .before .before .before .before .before .before) (w .0 .left)
+      ] in
+      does-notify (t (loud (c .before .before .before .before .before .before .before))) (work' (c .before .before .before .before .before .before .before) .object) (ts (here (loud (c .before .before .before .before .before .before .before)))) same (c .before .before .before .before .before .c4 .given .1) (c .before .notify-effect .ensures)
+
+  notify-six : length (c .before .notify-effect .result .threads) ≡ 6
+  notify-six = sym (length-map (c .before .notify-effect .result .threads) _) ∙ c .before .notify-effect .ok .1 .1 .1 .1 .0 .1 .0 .1
+
+  notify-less : weight (c .comes-to4 .result) < weight (here (loud (c .before .before .before .before .before .before .before)) .loop .acting)
+  notify-less = arm-less (c .before .before .before .before .before .before .before) _ notify-is (c .comes-to4 .result) (c .comes-to4 .ensures)
+
+-- what is done to a channel
+module _ (c : tie.After-comes-to5 Inv-loop μ-loop) where
+  channel-is : done' (c .before .before .before .before .before .before .before) ≡ inChannel (it (c .before .before .before .before .before .before .before)) (c .before .channel-effect .result)
+  channel-is =
+      let same : c .before .before .before .if21 .e ≡ it (c .before .before .before .before .before .before .before) =
+      elim (c .before .before .before .if21 .came) [
+        | inl w ↦ w .2 ∙ there (c .before .before .before .before .before .before .before) _ (w .0 .taken)
+        | inr w ↦ w .1 ∙ c .before .before .before .before .before .before .before .before .absent4 .ensures ∙ nowhere (c .before .before .before .before .before .before .before) (w .0 .left)
+      ] in
+      does-channel (t (loud (c .before .before .before .before .before .before .before))) (work' (c .before .before .before .before .before .before .before) .object) (ts (here (loud (c .before .before .before .before .before .before .before)))) same (c .before .before .before .before .before .c5 .given .1) (c .before .channel-effect .ensures)
+
+  channel-six : length (c .before .channel-effect .result .threads) ≡ 6
+  channel-six = sym (length-map (c .before .channel-effect .result .threads) _) ∙ c .before .channel-effect .ok .1 .1 .1 .1 .0 .1 .0 .1
+
+  channel-less : weight (c .comes-to5 .result) < weight (here (loud (c .before .before .before .before .before .before .before)) .loop .acting)
+  channel-less = arm-less (c .before .before .before .before .before .before .before) _ channel-is (c .comes-to5 .result) (c .comes-to5 .ensures)
+
+-- what is done to a arc
+module _ (c : tie.After-comes-to6 Inv-loop μ-loop) where
+  arc-is : done' (c .before .before .before .before .before .before .before) ≡ inArc (it (c .before .before .before .before .before .before .before)) (c .before .arc-effect .result)
+  arc-is =
+      let same : c .before .before .before .if24 .e ≡ it (c .before .before .before .before .before .before .before) =
+      elim (c .before .before .before .if24 .came) [
+        | inl w ↦ w .2 ∙ there (c .before .before .before .before .before .before .before) _ (w .0 .taken)
+        | inr w ↦ w .1 ∙ c .before .before .before .before .before .before .before .before .absent4 .ensures ∙ nowhere (c .before .before .before .before .before .before .before) (w .0 .left)
+      ] in
+      does-arc (t (loud (c .before .before .before .before .before .before .before))) (work' (c .before .before .before .before .before .before .before) .object) (ts (here (loud (c .before .before .before .before .before .before .before)))) same (c .before .before .before .before .before .c6 .given .1) (c .before .arc-effect .ensures)
+
+  arc-six : length (c .before .arc-effect .result .threads) ≡ 6
+  arc-six = sym (length-map (c .before .arc-effect .result .threads) _) ∙ c .before .arc-effect .ok .1 .1 .1 .1 .0 .1 .0 .1
+
+  arc-less : weight (c .comes-to6 .result) < weight (here (loud (c .before .before .before .before .before .before .before)) .loop .acting)
+  arc-less = arm-less (c .before .before .before .before .before .before .before) _ arc-is (c .comes-to6 .result) (c .comes-to6 .ensures)
+
+-- what is done to a cell
+module _ (c : tie.After-comes-to7 Inv-loop μ-loop) where
+  cell-is : done' (c .before .before .before .before .before .before .before) ≡ inCell (it (c .before .before .before .before .before .before .before)) (c .before .cell-effect .result)
+  cell-is =
+      let same : c .before .before .before .if27 .e ≡ it (c .before .before .before .before .before .before .before) =
+      elim (c .before .before .before .if27 .came) [
+        | inl w ↦ w .2 ∙ there (c .before .before .before .before .before .before .before) _ (w .0 .taken)
+        | inr w ↦ w .1 ∙ c .before .before .before .before .before .before .before .before .absent4 .ensures ∙ nowhere (c .before .before .before .before .before .before .before) (w .0 .left)
+      ] in
+      does-cell (t (loud (c .before .before .before .before .before .before .before))) (work' (c .before .before .before .before .before .before .before) .object) (ts (here (loud (c .before .before .before .before .before .before .before)))) same (c .before .before .before .before .before .c7 .given .1) (c .before .cell-effect .ensures)
+
+  cell-six : length (c .before .cell-effect .result .threads) ≡ 6
+  cell-six = sym (length-map (c .before .cell-effect .result .threads) _) ∙ c .before .cell-effect .ok .1 .1 .1 .1 .0 .1 .0 .1
+
+  cell-less : weight (c .comes-to7 .result) < weight (here (loud (c .before .before .before .before .before .before .before)) .loop .acting)
+  cell-less = arm-less (c .before .before .before .before .before .before .before) _ cell-is (c .comes-to7 .result) (c .comes-to7 .ensures)
+
+settles-is : (m : Move) (op : Op) (position : ℕ) → Settles m op ≡ comesTo ending.Fine m op position
+unfolding comesTo failedAs
+settles-is m op position = refl
+
+module _ (c : tie.After-enum-told2 Inv-loop μ-loop) where
+  spurs-is : done' (c .before .before) ≡ spurred (it (c .before .before)) (ts (here (loud (c .before .before))))
+  spurs-is = does-spurs _ _ _ _ (c .enum-told2 .given .1)
+
+-- a thread settles
+module _ (c : tie.After-follows Inv-loop μ-loop) where
+  abbrev at' : tie.At-loop Inv-loop μ-loop
+  at' = c .before .before .before .before .before .before .before .before .before .before .before .before .before .before .before
+
+  abbrev mv : Move
+  mv = c .before .before .before .before .before .before .before .before .before .before .before .before .before .acting2 .given .0 .0
+
+  abbrev wk : Op
+  wk = c .before .before .before .before .before .before .before .before .before .before .before .before .before .acting2 .given .0 .1 .0
+
+  is-settling : at' .loop .acting ≡ Settles mv wk
+  is-settling = c .before .before .before .before .before .before .before .before .before .before .before .before .before .acting2 .given .1
+
+  is-who' : c .before .before .before .before .before .before .before .before .before .before .before .who3 .result ≡ who mv
+  is-who' = c .before .before .before .before .before .before .before .before .before .before .before .who3 .ensures
+
+  seen' : c .before .before .before .before .before .before .before .before .before .if31 .x ≡ threadAt (ts at') (who mv)
+  seen' =
+      let u : ThreadId = c .before .before .before .before .before .before .before .before .before .before .before .who3 .result in
+      let found : c .before .before .before .before .before .before .before .before .before .if31 .x ≡ threadAt (ts at') u =
+      elim (c .before .before .before .before .before .before .before .before .before .if31 .came) [
+        | inl w ↦ w .2 ∙ getD-within (ts at') (u .0) _ _ (omega (arith, w .0 .taken, six at'))
+        | inr w ↦ w .2 ∙ w .1 .ensures ∙ sym (List·getD-eq-default (ts at') _ (omega (arith, w .0 .left, six at')))
+      ] in
+      found ∙ ap (threadAt (ts at')) is-who'
+
+  read' : c .before .before .before .before .before .if32 .e ≡ entryAt (es at') (wk .object)
+  read' =
+      elim (c .before .before .before .before .before .if32 .came) [
+        | inl w ↦ w .2 ∙ taken-there (es at') (wk .object .0) _ (omega (arith, w .0 .taken, runs at' .all))
+        | inr w ↦ w .1 ∙ c .before .before .before .before .before .before .absent6 .ensures ∙ taken-none (es at') (wk .object .0) (omega (arith, w .0 .left, runs at' .all))
       ]
 
-  abbrev s : Scene
-  s = sceneWith loud it
+  is-version : c .before .before .before .version .result ≡ version (runs at') mv wk is-settling
+  is-version = c .before .before .before .version .ensures ∙ (λ i. versionIn mv (c .before .before .before .before .action-of .ensures i) (read' i) (seen' i))
 
-  abbrev op : Op
-  op = about loud .op
+  is-follows : c .follows .result ≡ followsThen mv (wk .call) (threadAt (ts at') (who mv) .position)
+  is-follows = c .follows .ensures ∙ ap (λ (y : Thread). followsThen mv (wk .call) (y .position)) seen'
 
-  is-loud : isQuiet (threadAt (s .threads) (who (m loud)) .phase) (m loud) (about loud .left) (op .call) ≡ false
-  is-loud = told loud ∙ c .before .before .before .before .before .before .if6 .left
+  settle-less : weight (c .follows .result) < weight (at' .loop .acting)
+  settle-less = let h = settled-less (runs at') mv wk is-settling (threadAt (ts at') (who mv) .position) in let p = ap weight is-follows in omega (arith, h, p)
 
-  is-work : c .before .before .before .before .op-in .result ≡ work op s (m loud)
-  is-work = c .before .before .before .before .op-in .ensures ∙ ap (λ (y : Thread). opIn (y .phase) (m loud) op) (seen loud)
+  abbrev access : Access
+  access = record { «path_id» = c .before .before .turn-in .result; version = c .before .before .before .version .result }
 
-  abbrev r : Effect
-  r = c .before .before .loudly .result
+  abbrev noting : Entry → Noted
+  noting y = notedIn mv (c .before .before .before .before .action-of .result) (y .kind)
 
-  is-done : r ≡ doneBy op s (m loud) (work op s (m loud))
-  is-done = c .before .before .loudly .ensures ∙ (λ i. loudly (m loud) (is-work i) (c .before .before .before .turn-in .ensures i) it (s .threads))
+-- in its place
+module _ (c : tie.Joined33 Inv-loop μ-loop) where
+  abbrev tl : tie.After-follows Inv-loop μ-loop
+  tl = c .before
 
-  goes-on : c .before .follows .result ≡ follows (doneBy op s (m loud) (work op s (m loud)) .ending) (m loud) (work op s (m loud)) (threadAt (s .threads) (who (m loud)) .position)
-  goes-on = c .before .follows .ensures ∙ (λ i. follows (is-done i .ending) (m loud) (is-work i) (seen loud i .position))
+  stood : c .if33 .threads ≡ changed (ts (at' tl)) (who (mv tl)) (stands (mv tl) (wk tl .call) (version (runs (at' tl)) (mv tl) (wk tl) (is-settling tl)))
+  stood =
+      let us : List Thread = ts (at' tl) in
+      let i : ℕ = tl .before .before .before .before .before .before .before .before .before .before .before .who3 .result .0 in
+      let by : Thread → Thread = stands (mv tl) (wk tl .call) (tl .before .before .before .version .result) in
+      let put : c .if33 .threads ≡ set us i (by (threadAt us (who (mv tl)))) =
+      elim (c .if33 .came) [
+        | inl w ↦ w .2 ∙ ap (set us i) (w .1 .ensures ∙ ap by (seen' tl))
+        | inr w ↦ w .1 ∙ sym (set-out us i _ (omega (arith, w .0 .left, six (at' tl))))
+      ] in
+      put ∙ (λ j. set us (is-who' tl j .0) (stands (mv tl) (wk tl .call) (is-version tl j) (threadAt us (who (mv tl)))))
 
-  is-fine : isFine (doneBy op s (m loud) (work op s (m loud)) .ending) ≡ c .is-fine .result
-  is-fine = ap (λ (y : Effect). isFine (y .ending)) (sym is-done) ∙ sym (c .is-fine .ensures)
+  stood-six : length (c .if33 .threads) ≡ 6
+  stood-six = ap (λ (xs : List Thread). length xs) stood ∙ length-set (ts (at' tl)) (who (mv tl) .0) _ ∙ six (at' tl)
 
-  r-six : length (r .threads) ≡ 6
-  r-six = sym (length-map (r .threads) _) ∙ c .before .before .loudly .ok .1 .1 .1 .1 .0 .1 .0 .1
+  settle-next : (fs : List Entry) → fs ≡ putEntry (es (at' tl)) (wk tl .object) (note (noting tl (entryAt (es (at' tl)) (wk tl .object))) (access tl) (entryAt (es (at' tl)) (wk tl .object)))
+      → Running (table (at' tl)) (list (at' tl)) (given (at' tl)) (c .if33 .threads) fs (tl .before .before .turn-in .result) (tl .before .asked-in .result) (tl .follows .result) (at' tl .loop .at)
+  settle-next fs p =
+      let e : Entry = entryAt (es (at' tl)) (wk tl .object) in
+      settled-on (runs (at' tl)) (mv tl) (wk tl) (is-settling tl) (c .if33 .threads) fs _ _ _ stood
+      (p ∙ (λ i. putEntry (es (at' tl)) (wk tl .object) (note (notedIn (mv tl) (tl .before .before .before .before .action-of .ensures i) (e .kind)) (record { «path_id» = tl .before .before .turn-in .ensures i; version = is-version tl i }) e)))
+      (tl .before .before .turn-in .ensures) (tl .before .asked-in .ensures) (is-follows tl)
 
--- the step is fine, and its thread's operation done
-module _ (c : tie.After-asked-in Inv-loop μ-loop) where
-  abbrev f : tie.After-is-fine Inv-loop μ-loop
-  f = c .before .before .before .before .before
-
-  abbrev us : List Thread
-  us = c .before .if11 .threads
-
-  is-us : us ≡ positionBy (r f .threads) (t (loud f)) (settledBy (m (loud f)) (c .before .before .before .before .before .before .before .before .before .op-in .result .call))
-  is-us =
-      let rs : List Thread = r f .threads in
-      let i : ℕ = t (loud f) .0 in
-      let by : ℕ → ℕ = settledBy (m (loud f)) (c .before .before .before .before .before .before .before .before .before .op-in .result .call) in
-      elim (c .before .if11 .came) [
-        | inl w ↦
-            w .3
-            ∙ ap (λ (n : ℕ). set rs i (withPosition (getD rs i _) n)) (w .1 .ensures)
-            ∙ ap (λ (y : Thread). set rs i (withPosition y (by (y .position)))) (getD-within rs i _ _ (omega (arith, w .0 .taken, r-six f)))
-        | inr w ↦ w .1 ∙ sym (set-out rs i _ (omega (arith, w .0 .left, r-six f)))
-      ]
-
-  us-six : length us ≡ 6
-  us-six = ap (λ (xs : List Thread). length xs) is-us ∙ length-set (r f .threads) (t (loud f) .0) _ ∙ r-six f
-
-  abbrev moved : Moved
-  moved = record { acting = c .before .before .before .before .before .before .follows .result; scene = record { entry = r f .entry; threads = us; turn = c .before .before .before .before .before .before .before .before .turn-in .result; asked = c .asked-in .result } }
-
-  fine-done : moved ≡ act (m (loud f)) (about (loud f) .left) (op f) (s f)
-  fine-done =
-      let stands = is-us ∙ (λ i. let u = c .before .before .before .before .before .before .before .before .before .before .before .before .before .before .before .before .before .before .before .who2 .ensures i in positionBy (is-done f i .threads) u (settledBy (m (loud f)) (is-work f i .call))) in
-      (λ i. record { acting = goes-on f i; scene = record { entry = is-done f i .entry; threads = stands i; turn = c .before .before .before .before .before .before .before .before .turn-in .ensures i; asked = c .asked-in .ensures i } })
-      ∙ sym (loud-fine (op f) (s f) (m (loud f)) (about (loud f) .left) (is-loud f) (is-fine f ∙ c .before .before .before .before .if10 .taken))
-
-  fine-less : weight (moved .acting) < weight (here (loud f) .loop .acting)
-  fine-less = less (loud f) (it f) (taken f) moved fine-done
-
-  fine-next : (fs : List Entry) → fs ≡ putEntry (es (here (loud f))) (about (loud f) .object) (r f .entry)
-      → Running (table (here (loud f))) (list (here (loud f))) (given (here (loud f))) us fs (moved .scene .turn) (moved .scene .asked) (moved .acting) (here (loud f) .loop .at)
-  fine-next = next (loud f) (it f) (taken f) moved fine-done
-
--- it fails, and all stays as it was
-module _ (c : tie.Else10 Inv-loop μ-loop) where
-  abbrev g : tie.After-is-fine Inv-loop μ-loop
-  g = c .before
-
-  abbrev failed : Moved
-  failed = record { acting = c .before .before .follows .result; scene = s g }
-
-  fails-done : failed ≡ act (m (loud g)) (about (loud g) .left) (op g) (s g)
-  fails-done = (λ i. record { acting = goes-on g i; scene = s g }) ∙ sym (loud-fails (op g) (s g) (m (loud g)) (about (loud g) .left) (is-loud g) (is-fine g ∙ c .if10 .left))
+  -- the access, recorded in its place
+  recorded-in : (n : Noted) → n ≡ noting tl (tl .before .before .before .before .before .if32 .e) → wk tl .object .0 < 16 → (d : Entry) (fs : List Entry) → fs ≡ putEntry (es (at' tl)) (wk tl .object) (note n (access tl) (getD (es (at' tl)) (wk tl .object .0) d))
+      → fs ≡ putEntry (es (at' tl)) (wk tl .object) (note (noting tl (entryAt (es (at' tl)) (wk tl .object))) (access tl) (entryAt (es (at' tl)) (wk tl .object)))
+  recorded-in n is h d fs p =
+      let same = taken-there (es (at' tl)) (wk tl .object .0) d (omega (arith, h, runs (at' tl) .all)) in
+      let place = is ∙ ap (noting tl) (read' tl) in
+      p ∙ (λ i. putEntry (es (at' tl)) (wk tl .object) (note (place i) (access tl) (same i)))
 
 loop-holds : tie.Need-loop-holds Inv-loop μ-loop
 loop-holds c =
@@ -412,47 +620,38 @@ loop-again-3 c =
       six w,
     )
 
+op-in-requires : tie.Need-op-in-requires Inv-loop μ-loop
+op-in-requires c κs = search needs
+
+absent-requires-4 : tie.Need-absent-requires-4 Inv-loop μ-loop
+absent-requires-4 c κs = search needs
+
+deed-in-requires : tie.Need-deed-in-requires Inv-loop μ-loop
+deed-in-requires c κs = search needs
+
+enum-known-c : tie.Need-enum-known-c Inv-loop μ-loop
+enum-known-c c = search needs
+
 mul-e-2 : tie.Need-mul-e-2 Inv-loop μ-loop
 mul-e-2 c = search needs
 
 array-copy-out-e-2 : tie.Need-array-copy-out-e-2 Inv-loop μ-loop
 array-copy-out-e-2 c = search needs
 
-absent-requires-4 : tie.Need-absent-requires-4 Inv-loop μ-loop
-absent-requires-4 c κs = search needs
+mutex-effect-requires : tie.Need-mutex-effect-requires Inv-loop μ-loop
+mutex-effect-requires c κs = search needs
 
-op-in-requires : tie.Need-op-in-requires Inv-loop μ-loop
-op-in-requires c κs = search needs
-
-turn-in-requires : tie.Need-turn-in-requires Inv-loop μ-loop
-turn-in-requires c κs = search needs
-
-loudly-requires : tie.Need-loudly-requires Inv-loop μ-loop
-loudly-requires c κs = search needs
-
-follows-requires : tie.Need-follows-requires Inv-loop μ-loop
-follows-requires c κs = search needs
+comes-to-requires : tie.Need-comes-to-requires Inv-loop μ-loop
+comes-to-requires c κs = search needs
 
 is-fine-requires : tie.Need-is-fine-requires Inv-loop μ-loop
 is-fine-requires c κs = search needs
 
-mul-stood : tie.Need-mul-stood Inv-loop μ-loop
-mul-stood c = search needs
+mul-e-3 : tie.Need-mul-e-3 Inv-loop μ-loop
+mul-e-3 c = search needs
 
-element-copy-out-stood : tie.Need-element-copy-out-stood Inv-loop μ-loop
-element-copy-out-stood c = search needs
-
-settled-requires : tie.Need-settled-requires Inv-loop μ-loop
-settled-requires c κs = search needs
-
-mul-threads-2 : tie.Need-mul-threads-2 Inv-loop μ-loop
-mul-threads-2 c = search needs
-
-way-write-given-threads : tie.Need-way-write-given-threads Inv-loop μ-loop
-way-write-given-threads c = search needs
-
-asked-in-requires : tie.Need-asked-in-requires Inv-loop μ-loop
-asked-in-requires c κs = search needs
+array-copy-out-e-3 : tie.Need-array-copy-out-e-3 Inv-loop μ-loop
+array-copy-out-e-3 c = search needs
 
 mul-objects : tie.Need-mul-objects Inv-loop μ-loop
 mul-objects c = search needs
@@ -461,58 +660,592 @@ array-set-from-objects : tie.Need-array-set-from-objects Inv-loop μ-loop
 array-set-from-objects c = search needs
 
 loop-less-4 : tie.Need-loop-less-4 Inv-loop μ-loop
-loop-less-4 c = omega (arith, fine-less (c .before))
+loop-less-4 c = omega (arith, mutex-less (c .before .before .before .before .before .before))
 
 loop-again-4 : tie.Need-loop-again-4 Inv-loop μ-loop
-loop-again-4 c = (fine-next (c .before) _ refl, us-six (c .before))
+loop-again-4 c = (arm-kept (c .before .before .before .before .before .before .before .before .before .before .before .before .before) (inMutex (it (c .before .before .before .before .before .before .before .before .before .before .before .before .before)) (c .before .before .before .before .before .before .before .mutex-effect .result)) (mutex-is (c .before .before .before .before .before .before)) (c .before .before .before .before .before .before .comes-to .result) (c .before .before .before .before .before .before .comes-to .ensures) (sym (c .before .before .before .before .before .is-fine .ensures) ∙ c .before .before .before .before .if10 .taken) _ (ap (λ (y : Entry). putEntry (es (here (loud (c .before .before .before .before .before .before .before .before .before .before .before .before .before)))) (about (loud (c .before .before .before .before .before .before .before .before .before .before .before .before .before)) .object) (putMutex y (c .before .before .before .before .before .before .before .mutex-effect .result .state))) (there (c .before .before .before .before .before .before .before .before .before .before .before .before .before) _ (c .before .before .if11 .taken))), mutex-six (c .before .before .before .before .before .before))
 
 loop-less-5 : tie.Need-loop-less-5 Inv-loop μ-loop
-loop-less-5 c = omega (arith, fine-less (c .before))
+loop-less-5 c = omega (arith, mutex-less (c .before .before .before .before))
 
 loop-again-5 : tie.Need-loop-again-5 Inv-loop μ-loop
-loop-again-5 c = (fine-next (c .before) _ (sym (set-out _ _ _ (omega (arith, c .if12 .left, runs (c .before .before .before .before .before .before .before .before .before .before .before .before .before .before .before .before .before .before .before .before .before .before .before .before .before) .all)))), us-six (c .before))
+loop-again-5 c = (arm-kept (c .before .before .before .before .before .before .before .before .before .before .before) (inMutex (it (c .before .before .before .before .before .before .before .before .before .before .before)) (c .before .before .before .before .before .mutex-effect .result)) (mutex-is (c .before .before .before .before)) (c .before .before .before .before .comes-to .result) (c .before .before .before .before .comes-to .ensures) (sym (c .before .before .before .is-fine .ensures) ∙ c .before .before .if10 .taken) _ (unput (c .before .before .before .before .before .before .before .before .before .before .before) _ (c .if11 .left)), mutex-six (c .before .before .before .before))
 
 loop-less-6 : tie.Need-loop-less-6 Inv-loop μ-loop
-loop-less-6 c = omega (arith, less (loud (g c)) (it (g c)) (taken (g c)) (failed c) (fails-done c))
+loop-less-6 c = omega (arith, mutex-less (c .before .before))
 
 loop-again-6 : tie.Need-loop-again-6 Inv-loop μ-loop
-loop-again-6 c = (same (loud (g c)) (it (g c)) (taken (g c)) (failed c) (fails-done c) refl, six (here (loud (g c))))
+loop-again-6 c = (arm-left (c .before .before .before .before .before .before .before .before .before) (inMutex (it (c .before .before .before .before .before .before .before .before .before)) (c .before .before .before .mutex-effect .result)) (mutex-is (c .before .before)) (c .before .before .comes-to .result) (c .before .before .comes-to .ensures) (sym (c .before .is-fine .ensures) ∙ c .if10 .left), six (here (loud (c .before .before .before .before .before .before .before .before .before))))
+
+enum-known-c-2 : tie.Need-enum-known-c-2 Inv-loop μ-loop
+enum-known-c-2 c = search needs
+
+mul-e-4 : tie.Need-mul-e-4 Inv-loop μ-loop
+mul-e-4 c = search needs
+
+array-copy-out-e-4 : tie.Need-array-copy-out-e-4 Inv-loop μ-loop
+array-copy-out-e-4 c = search needs
+
+rwlock-effect-requires : tie.Need-rwlock-effect-requires Inv-loop μ-loop
+rwlock-effect-requires c κs = search needs
+
+comes-to-requires-2 : tie.Need-comes-to-requires-2 Inv-loop μ-loop
+comes-to-requires-2 c κs = search needs
+
+is-fine-requires-2 : tie.Need-is-fine-requires-2 Inv-loop μ-loop
+is-fine-requires-2 c κs = search needs
+
+mul-e-5 : tie.Need-mul-e-5 Inv-loop μ-loop
+mul-e-5 c = search needs
+
+array-copy-out-e-5 : tie.Need-array-copy-out-e-5 Inv-loop μ-loop
+array-copy-out-e-5 c = search needs
+
+mul-objects-2 : tie.Need-mul-objects-2 Inv-loop μ-loop
+mul-objects-2 c = search needs
+
+array-set-from-objects-2 : tie.Need-array-set-from-objects-2 Inv-loop μ-loop
+array-set-from-objects-2 c = search needs
+
+loop-less-7 : tie.Need-loop-less-7 Inv-loop μ-loop
+loop-less-7 c = omega (arith, rwlock-less (c .before .before .before .before .before .before))
+
+loop-again-7 : tie.Need-loop-again-7 Inv-loop μ-loop
+loop-again-7 c = (arm-kept (c .before .before .before .before .before .before .before .before .before .before .before .before .before) (inRwLock (it (c .before .before .before .before .before .before .before .before .before .before .before .before .before)) (c .before .before .before .before .before .before .before .rwlock-effect .result)) (rwlock-is (c .before .before .before .before .before .before)) (c .before .before .before .before .before .before .comes-to2 .result) (c .before .before .before .before .before .before .comes-to2 .ensures) (sym (c .before .before .before .before .before .is-fine2 .ensures) ∙ c .before .before .before .before .if13 .taken) _ (ap (λ (y : Entry). putEntry (es (here (loud (c .before .before .before .before .before .before .before .before .before .before .before .before .before)))) (about (loud (c .before .before .before .before .before .before .before .before .before .before .before .before .before)) .object) (putRwLock y (c .before .before .before .before .before .before .before .rwlock-effect .result .state))) (there (c .before .before .before .before .before .before .before .before .before .before .before .before .before) _ (c .before .before .if14 .taken))), rwlock-six (c .before .before .before .before .before .before))
+
+loop-less-8 : tie.Need-loop-less-8 Inv-loop μ-loop
+loop-less-8 c = omega (arith, rwlock-less (c .before .before .before .before))
+
+loop-again-8 : tie.Need-loop-again-8 Inv-loop μ-loop
+loop-again-8 c = (arm-kept (c .before .before .before .before .before .before .before .before .before .before .before) (inRwLock (it (c .before .before .before .before .before .before .before .before .before .before .before)) (c .before .before .before .before .before .rwlock-effect .result)) (rwlock-is (c .before .before .before .before)) (c .before .before .before .before .comes-to2 .result) (c .before .before .before .before .comes-to2 .ensures) (sym (c .before .before .before .is-fine2 .ensures) ∙ c .before .before .if13 .taken) _ (unput (c .before .before .before .before .before .before .before .before .before .before .before) _ (c .if14 .left)), rwlock-six (c .before .before .before .before))
+
+loop-less-9 : tie.Need-loop-less-9 Inv-loop μ-loop
+loop-less-9 c = omega (arith, rwlock-less (c .before .before))
+
+loop-again-9 : tie.Need-loop-again-9 Inv-loop μ-loop
+loop-again-9 c = (arm-left (c .before .before .before .before .before .before .before .before .before) (inRwLock (it (c .before .before .before .before .before .before .before .before .before)) (c .before .before .before .rwlock-effect .result)) (rwlock-is (c .before .before)) (c .before .before .comes-to2 .result) (c .before .before .comes-to2 .ensures) (sym (c .before .is-fine2 .ensures) ∙ c .if13 .left), six (here (loud (c .before .before .before .before .before .before .before .before .before))))
+
+enum-known-c-3 : tie.Need-enum-known-c-3 Inv-loop μ-loop
+enum-known-c-3 c = search needs
+
+mul-e-6 : tie.Need-mul-e-6 Inv-loop μ-loop
+mul-e-6 c = search needs
+
+array-copy-out-e-6 : tie.Need-array-copy-out-e-6 Inv-loop μ-loop
+array-copy-out-e-6 c = search needs
+
+condvar-effect-requires : tie.Need-condvar-effect-requires Inv-loop μ-loop
+condvar-effect-requires c κs = search needs
+
+comes-to-requires-3 : tie.Need-comes-to-requires-3 Inv-loop μ-loop
+comes-to-requires-3 c κs = search needs
+
+is-fine-requires-3 : tie.Need-is-fine-requires-3 Inv-loop μ-loop
+is-fine-requires-3 c κs = search needs
+
+mul-e-7 : tie.Need-mul-e-7 Inv-loop μ-loop
+mul-e-7 c = search needs
+
+array-copy-out-e-7 : tie.Need-array-copy-out-e-7 Inv-loop μ-loop
+array-copy-out-e-7 c = search needs
+
+mul-objects-3 : tie.Need-mul-objects-3 Inv-loop μ-loop
+mul-objects-3 c = search needs
+
+array-set-from-objects-3 : tie.Need-array-set-from-objects-3 Inv-loop μ-loop
+array-set-from-objects-3 c = search needs
+
+loop-less-10 : tie.Need-loop-less-10 Inv-loop μ-loop
+loop-less-10 c = omega (arith, condvar-less (c .before .before .before .before .before .before))
+
+loop-again-10 : tie.Need-loop-again-10 Inv-loop μ-loop
+loop-again-10 c = (arm-kept (c .before .before .before .before .before .before .before .before .before .before .before .before .before) (inCondvar (it (c .before .before .before .before .before .before .before .before .before .before .before .before .before)) (c .before .before .before .before .before .before .before .condvar-effect .result)) (condvar-is (c .before .before .before .before .before .before)) (c .before .before .before .before .before .before .comes-to3 .result) (c .before .before .before .before .before .before .comes-to3 .ensures) (sym (c .before .before .before .before .before .is-fine3 .ensures) ∙ c .before .before .before .before .if16 .taken) _ (ap (λ (y : Entry). putEntry (es (here (loud (c .before .before .before .before .before .before .before .before .before .before .before .before .before)))) (about (loud (c .before .before .before .before .before .before .before .before .before .before .before .before .before)) .object) (putCondvar y (c .before .before .before .before .before .before .before .condvar-effect .result .state))) (there (c .before .before .before .before .before .before .before .before .before .before .before .before .before) _ (c .before .before .if17 .taken))), condvar-six (c .before .before .before .before .before .before))
+
+loop-less-11 : tie.Need-loop-less-11 Inv-loop μ-loop
+loop-less-11 c = omega (arith, condvar-less (c .before .before .before .before))
+
+loop-again-11 : tie.Need-loop-again-11 Inv-loop μ-loop
+loop-again-11 c = (arm-kept (c .before .before .before .before .before .before .before .before .before .before .before) (inCondvar (it (c .before .before .before .before .before .before .before .before .before .before .before)) (c .before .before .before .before .before .condvar-effect .result)) (condvar-is (c .before .before .before .before)) (c .before .before .before .before .comes-to3 .result) (c .before .before .before .before .comes-to3 .ensures) (sym (c .before .before .before .is-fine3 .ensures) ∙ c .before .before .if16 .taken) _ (unput (c .before .before .before .before .before .before .before .before .before .before .before) _ (c .if17 .left)), condvar-six (c .before .before .before .before))
+
+loop-less-12 : tie.Need-loop-less-12 Inv-loop μ-loop
+loop-less-12 c = omega (arith, condvar-less (c .before .before))
+
+loop-again-12 : tie.Need-loop-again-12 Inv-loop μ-loop
+loop-again-12 c = (arm-left (c .before .before .before .before .before .before .before .before .before) (inCondvar (it (c .before .before .before .before .before .before .before .before .before)) (c .before .before .before .condvar-effect .result)) (condvar-is (c .before .before)) (c .before .before .comes-to3 .result) (c .before .before .comes-to3 .ensures) (sym (c .before .is-fine3 .ensures) ∙ c .if16 .left), six (here (loud (c .before .before .before .before .before .before .before .before .before))))
+
+enum-known-c-4 : tie.Need-enum-known-c-4 Inv-loop μ-loop
+enum-known-c-4 c = search needs
+
+mul-e-8 : tie.Need-mul-e-8 Inv-loop μ-loop
+mul-e-8 c = search needs
+
+array-copy-out-e-8 : tie.Need-array-copy-out-e-8 Inv-loop μ-loop
+array-copy-out-e-8 c = search needs
+
+notify-effect-requires : tie.Need-notify-effect-requires Inv-loop μ-loop
+notify-effect-requires c κs = search needs
+
+comes-to-requires-4 : tie.Need-comes-to-requires-4 Inv-loop μ-loop
+comes-to-requires-4 c κs = search needs
+
+is-fine-requires-4 : tie.Need-is-fine-requires-4 Inv-loop μ-loop
+is-fine-requires-4 c κs = search needs
+
+mul-e-9 : tie.Need-mul-e-9 Inv-loop μ-loop
+mul-e-9 c = search needs
+
+array-copy-out-e-9 : tie.Need-array-copy-out-e-9 Inv-loop μ-loop
+array-copy-out-e-9 c = search needs
+
+mul-objects-4 : tie.Need-mul-objects-4 Inv-loop μ-loop
+mul-objects-4 c = search needs
+
+array-set-from-objects-4 : tie.Need-array-set-from-objects-4 Inv-loop μ-loop
+array-set-from-objects-4 c = search needs
+
+loop-less-13 : tie.Need-loop-less-13 Inv-loop μ-loop
+loop-less-13 c = omega (arith, notify-less (c .before .before .before .before .before .before))
+
+loop-again-13 : tie.Need-loop-again-13 Inv-loop μ-loop
+loop-again-13 c = (arm-kept (c .before .before .before .before .before .before .before .before .before .before .before .before .before) (inNotify (it (c .before .before .before .before .before .before .before .before .before .before .before .before .before)) (c .before .before .before .before .before .before .before .notify-effect .result)) (notify-is (c .before .before .before .before .before .before)) (c .before .before .before .before .before .before .comes-to4 .result) (c .before .before .before .before .before .before .comes-to4 .ensures) (sym (c .before .before .before .before .before .is-fine4 .ensures) ∙ c .before .before .before .before .if19 .taken) _ (ap (λ (y : Entry). putEntry (es (here (loud (c .before .before .before .before .before .before .before .before .before .before .before .before .before)))) (about (loud (c .before .before .before .before .before .before .before .before .before .before .before .before .before)) .object) (putNotify y (c .before .before .before .before .before .before .before .notify-effect .result .state))) (there (c .before .before .before .before .before .before .before .before .before .before .before .before .before) _ (c .before .before .if20 .taken))), notify-six (c .before .before .before .before .before .before))
+
+loop-less-14 : tie.Need-loop-less-14 Inv-loop μ-loop
+loop-less-14 c = omega (arith, notify-less (c .before .before .before .before))
+
+loop-again-14 : tie.Need-loop-again-14 Inv-loop μ-loop
+loop-again-14 c = (arm-kept (c .before .before .before .before .before .before .before .before .before .before .before) (inNotify (it (c .before .before .before .before .before .before .before .before .before .before .before)) (c .before .before .before .before .before .notify-effect .result)) (notify-is (c .before .before .before .before)) (c .before .before .before .before .comes-to4 .result) (c .before .before .before .before .comes-to4 .ensures) (sym (c .before .before .before .is-fine4 .ensures) ∙ c .before .before .if19 .taken) _ (unput (c .before .before .before .before .before .before .before .before .before .before .before) _ (c .if20 .left)), notify-six (c .before .before .before .before))
+
+loop-less-15 : tie.Need-loop-less-15 Inv-loop μ-loop
+loop-less-15 c = omega (arith, notify-less (c .before .before))
+
+loop-again-15 : tie.Need-loop-again-15 Inv-loop μ-loop
+loop-again-15 c = (arm-left (c .before .before .before .before .before .before .before .before .before) (inNotify (it (c .before .before .before .before .before .before .before .before .before)) (c .before .before .before .notify-effect .result)) (notify-is (c .before .before)) (c .before .before .comes-to4 .result) (c .before .before .comes-to4 .ensures) (sym (c .before .is-fine4 .ensures) ∙ c .if19 .left), six (here (loud (c .before .before .before .before .before .before .before .before .before))))
+
+enum-known-c-5 : tie.Need-enum-known-c-5 Inv-loop μ-loop
+enum-known-c-5 c = search needs
+
+mul-e-10 : tie.Need-mul-e-10 Inv-loop μ-loop
+mul-e-10 c = search needs
+
+array-copy-out-e-10 : tie.Need-array-copy-out-e-10 Inv-loop μ-loop
+array-copy-out-e-10 c = search needs
+
+channel-effect-requires : tie.Need-channel-effect-requires Inv-loop μ-loop
+channel-effect-requires c κs = search needs
+
+comes-to-requires-5 : tie.Need-comes-to-requires-5 Inv-loop μ-loop
+comes-to-requires-5 c κs = search needs
+
+is-fine-requires-5 : tie.Need-is-fine-requires-5 Inv-loop μ-loop
+is-fine-requires-5 c κs = search needs
+
+mul-e-11 : tie.Need-mul-e-11 Inv-loop μ-loop
+mul-e-11 c = search needs
+
+array-copy-out-e-11 : tie.Need-array-copy-out-e-11 Inv-loop μ-loop
+array-copy-out-e-11 c = search needs
+
+mul-objects-5 : tie.Need-mul-objects-5 Inv-loop μ-loop
+mul-objects-5 c = search needs
+
+array-set-from-objects-5 : tie.Need-array-set-from-objects-5 Inv-loop μ-loop
+array-set-from-objects-5 c = search needs
+
+loop-less-16 : tie.Need-loop-less-16 Inv-loop μ-loop
+loop-less-16 c = omega (arith, channel-less (c .before .before .before .before .before .before))
+
+loop-again-16 : tie.Need-loop-again-16 Inv-loop μ-loop
+loop-again-16 c = (arm-kept (c .before .before .before .before .before .before .before .before .before .before .before .before .before) (inChannel (it (c .before .before .before .before .before .before .before .before .before .before .before .before .before)) (c .before .before .before .before .before .before .before .channel-effect .result)) (channel-is (c .before .before .before .before .before .before)) (c .before .before .before .before .before .before .comes-to5 .result) (c .before .before .before .before .before .before .comes-to5 .ensures) (sym (c .before .before .before .before .before .is-fine5 .ensures) ∙ c .before .before .before .before .if22 .taken) _ (ap (λ (y : Entry). putEntry (es (here (loud (c .before .before .before .before .before .before .before .before .before .before .before .before .before)))) (about (loud (c .before .before .before .before .before .before .before .before .before .before .before .before .before)) .object) (putChannel y (c .before .before .before .before .before .before .before .channel-effect .result .state))) (there (c .before .before .before .before .before .before .before .before .before .before .before .before .before) _ (c .before .before .if23 .taken))), channel-six (c .before .before .before .before .before .before))
+
+loop-less-17 : tie.Need-loop-less-17 Inv-loop μ-loop
+loop-less-17 c = omega (arith, channel-less (c .before .before .before .before))
+
+loop-again-17 : tie.Need-loop-again-17 Inv-loop μ-loop
+loop-again-17 c = (arm-kept (c .before .before .before .before .before .before .before .before .before .before .before) (inChannel (it (c .before .before .before .before .before .before .before .before .before .before .before)) (c .before .before .before .before .before .channel-effect .result)) (channel-is (c .before .before .before .before)) (c .before .before .before .before .comes-to5 .result) (c .before .before .before .before .comes-to5 .ensures) (sym (c .before .before .before .is-fine5 .ensures) ∙ c .before .before .if22 .taken) _ (unput (c .before .before .before .before .before .before .before .before .before .before .before) _ (c .if23 .left)), channel-six (c .before .before .before .before))
+
+loop-less-18 : tie.Need-loop-less-18 Inv-loop μ-loop
+loop-less-18 c = omega (arith, channel-less (c .before .before))
+
+loop-again-18 : tie.Need-loop-again-18 Inv-loop μ-loop
+loop-again-18 c = (arm-left (c .before .before .before .before .before .before .before .before .before) (inChannel (it (c .before .before .before .before .before .before .before .before .before)) (c .before .before .before .channel-effect .result)) (channel-is (c .before .before)) (c .before .before .comes-to5 .result) (c .before .before .comes-to5 .ensures) (sym (c .before .is-fine5 .ensures) ∙ c .if22 .left), six (here (loud (c .before .before .before .before .before .before .before .before .before))))
+
+enum-known-c-6 : tie.Need-enum-known-c-6 Inv-loop μ-loop
+enum-known-c-6 c = search needs
+
+mul-e-12 : tie.Need-mul-e-12 Inv-loop μ-loop
+mul-e-12 c = search needs
+
+array-copy-out-e-12 : tie.Need-array-copy-out-e-12 Inv-loop μ-loop
+array-copy-out-e-12 c = search needs
+
+arc-effect-requires : tie.Need-arc-effect-requires Inv-loop μ-loop
+arc-effect-requires c κs = search needs
+
+comes-to-requires-6 : tie.Need-comes-to-requires-6 Inv-loop μ-loop
+comes-to-requires-6 c κs = search needs
+
+is-fine-requires-6 : tie.Need-is-fine-requires-6 Inv-loop μ-loop
+is-fine-requires-6 c κs = search needs
+
+mul-e-13 : tie.Need-mul-e-13 Inv-loop μ-loop
+mul-e-13 c = search needs
+
+array-copy-out-e-13 : tie.Need-array-copy-out-e-13 Inv-loop μ-loop
+array-copy-out-e-13 c = search needs
+
+mul-objects-6 : tie.Need-mul-objects-6 Inv-loop μ-loop
+mul-objects-6 c = search needs
+
+array-set-from-objects-6 : tie.Need-array-set-from-objects-6 Inv-loop μ-loop
+array-set-from-objects-6 c = search needs
+
+loop-less-19 : tie.Need-loop-less-19 Inv-loop μ-loop
+loop-less-19 c = omega (arith, arc-less (c .before .before .before .before .before .before))
+
+loop-again-19 : tie.Need-loop-again-19 Inv-loop μ-loop
+loop-again-19 c = (arm-kept (c .before .before .before .before .before .before .before .before .before .before .before .before .before) (inArc (it (c .before .before .before .before .before .before .before .before .before .before .before .before .before)) (c .before .before .before .before .before .before .before .arc-effect .result)) (arc-is (c .before .before .before .before .before .before)) (c .before .before .before .before .before .before .comes-to6 .result) (c .before .before .before .before .before .before .comes-to6 .ensures) (sym (c .before .before .before .before .before .is-fine6 .ensures) ∙ c .before .before .before .before .if25 .taken) _ (ap (λ (y : Entry). putEntry (es (here (loud (c .before .before .before .before .before .before .before .before .before .before .before .before .before)))) (about (loud (c .before .before .before .before .before .before .before .before .before .before .before .before .before)) .object) (putArc y (c .before .before .before .before .before .before .before .arc-effect .result .state))) (there (c .before .before .before .before .before .before .before .before .before .before .before .before .before) _ (c .before .before .if26 .taken))), arc-six (c .before .before .before .before .before .before))
+
+loop-less-20 : tie.Need-loop-less-20 Inv-loop μ-loop
+loop-less-20 c = omega (arith, arc-less (c .before .before .before .before))
+
+loop-again-20 : tie.Need-loop-again-20 Inv-loop μ-loop
+loop-again-20 c = (arm-kept (c .before .before .before .before .before .before .before .before .before .before .before) (inArc (it (c .before .before .before .before .before .before .before .before .before .before .before)) (c .before .before .before .before .before .arc-effect .result)) (arc-is (c .before .before .before .before)) (c .before .before .before .before .comes-to6 .result) (c .before .before .before .before .comes-to6 .ensures) (sym (c .before .before .before .is-fine6 .ensures) ∙ c .before .before .if25 .taken) _ (unput (c .before .before .before .before .before .before .before .before .before .before .before) _ (c .if26 .left)), arc-six (c .before .before .before .before))
+
+loop-less-21 : tie.Need-loop-less-21 Inv-loop μ-loop
+loop-less-21 c = omega (arith, arc-less (c .before .before))
+
+loop-again-21 : tie.Need-loop-again-21 Inv-loop μ-loop
+loop-again-21 c = (arm-left (c .before .before .before .before .before .before .before .before .before) (inArc (it (c .before .before .before .before .before .before .before .before .before)) (c .before .before .before .arc-effect .result)) (arc-is (c .before .before)) (c .before .before .comes-to6 .result) (c .before .before .comes-to6 .ensures) (sym (c .before .is-fine6 .ensures) ∙ c .if25 .left), six (here (loud (c .before .before .before .before .before .before .before .before .before))))
+
+enum-known-c-7 : tie.Need-enum-known-c-7 Inv-loop μ-loop
+enum-known-c-7 c = search needs
+
+mul-e-14 : tie.Need-mul-e-14 Inv-loop μ-loop
+mul-e-14 c = search needs
+
+array-copy-out-e-14 : tie.Need-array-copy-out-e-14 Inv-loop μ-loop
+array-copy-out-e-14 c = search needs
+
+cell-effect-requires : tie.Need-cell-effect-requires Inv-loop μ-loop
+cell-effect-requires c κs = search needs
+
+comes-to-requires-7 : tie.Need-comes-to-requires-7 Inv-loop μ-loop
+comes-to-requires-7 c κs = search needs
+
+is-fine-requires-7 : tie.Need-is-fine-requires-7 Inv-loop μ-loop
+is-fine-requires-7 c κs = search needs
+
+mul-e-15 : tie.Need-mul-e-15 Inv-loop μ-loop
+mul-e-15 c = search needs
+
+array-copy-out-e-15 : tie.Need-array-copy-out-e-15 Inv-loop μ-loop
+array-copy-out-e-15 c = search needs
+
+mul-objects-7 : tie.Need-mul-objects-7 Inv-loop μ-loop
+mul-objects-7 c = search needs
+
+array-set-from-objects-7 : tie.Need-array-set-from-objects-7 Inv-loop μ-loop
+array-set-from-objects-7 c = search needs
+
+loop-less-22 : tie.Need-loop-less-22 Inv-loop μ-loop
+loop-less-22 c = omega (arith, cell-less (c .before .before .before .before .before .before))
+
+loop-again-22 : tie.Need-loop-again-22 Inv-loop μ-loop
+loop-again-22 c = (arm-kept (c .before .before .before .before .before .before .before .before .before .before .before .before .before) (inCell (it (c .before .before .before .before .before .before .before .before .before .before .before .before .before)) (c .before .before .before .before .before .before .before .cell-effect .result)) (cell-is (c .before .before .before .before .before .before)) (c .before .before .before .before .before .before .comes-to7 .result) (c .before .before .before .before .before .before .comes-to7 .ensures) (sym (c .before .before .before .before .before .is-fine7 .ensures) ∙ c .before .before .before .before .if28 .taken) _ (ap (λ (y : Entry). putEntry (es (here (loud (c .before .before .before .before .before .before .before .before .before .before .before .before .before)))) (about (loud (c .before .before .before .before .before .before .before .before .before .before .before .before .before)) .object) (putCell y (c .before .before .before .before .before .before .before .cell-effect .result .state))) (there (c .before .before .before .before .before .before .before .before .before .before .before .before .before) _ (c .before .before .if29 .taken))), cell-six (c .before .before .before .before .before .before))
+
+loop-less-23 : tie.Need-loop-less-23 Inv-loop μ-loop
+loop-less-23 c = omega (arith, cell-less (c .before .before .before .before))
+
+loop-again-23 : tie.Need-loop-again-23 Inv-loop μ-loop
+loop-again-23 c = (arm-kept (c .before .before .before .before .before .before .before .before .before .before .before) (inCell (it (c .before .before .before .before .before .before .before .before .before .before .before)) (c .before .before .before .before .before .cell-effect .result)) (cell-is (c .before .before .before .before)) (c .before .before .before .before .comes-to7 .result) (c .before .before .before .before .comes-to7 .ensures) (sym (c .before .before .before .is-fine7 .ensures) ∙ c .before .before .if28 .taken) _ (unput (c .before .before .before .before .before .before .before .before .before .before .before) _ (c .if29 .left)), cell-six (c .before .before .before .before))
+
+loop-less-24 : tie.Need-loop-less-24 Inv-loop μ-loop
+loop-less-24 c = omega (arith, cell-less (c .before .before))
+
+loop-again-24 : tie.Need-loop-again-24 Inv-loop μ-loop
+loop-again-24 c = (arm-left (c .before .before .before .before .before .before .before .before .before) (inCell (it (c .before .before .before .before .before .before .before .before .before)) (c .before .before .before .cell-effect .result)) (cell-is (c .before .before)) (c .before .before .comes-to7 .result) (c .before .before .comes-to7 .ensures) (sym (c .before .is-fine7 .ensures) ∙ c .if28 .left), six (here (loud (c .before .before .before .before .before .before .before .before .before))))
 
 enum-told-2 : tie.Need-enum-told-2 Inv-loop μ-loop
 enum-told-2 c = search needs
 
-after-requires : tie.Need-after-requires Inv-loop μ-loop
-after-requires c κs = search needs
+mul-e-16 : tie.Need-mul-e-16 Inv-loop μ-loop
+mul-e-16 c = search needs
 
-loop-less-7 : tie.Need-loop-less-7 Inv-loop μ-loop
-loop-less-7 c = omega (arith, turn-over-less (runs (c .before .before .before)) (c .before .enum-told2 .given .1) _ (c .after .ensures))
+array-copy-out-e-16 : tie.Need-array-copy-out-e-16 Inv-loop μ-loop
+array-copy-out-e-16 c = search needs
 
-loop-again-7 : tie.Need-loop-again-7 Inv-loop μ-loop
-loop-again-7 c = (turn-over (runs (c .before .before .before)) (c .before .enum-told2 .given .1) _ (c .after .ensures), six (c .before .before .before))
+spur-requires : tie.Need-spur-requires Inv-loop μ-loop
+spur-requires c κs = search needs
 
-enum-told-3 : tie.Need-enum-told-3 Inv-loop μ-loop
-enum-told-3 c = search needs
+mul-objects-8 : tie.Need-mul-objects-8 Inv-loop μ-loop
+mul-objects-8 c = search needs
 
-leak-check-requires : tie.Need-leak-check-requires Inv-loop μ-loop
-leak-check-requires c κs = search needs
+array-set-from-objects-8 : tie.Need-array-set-from-objects-8 Inv-loop μ-loop
+array-set-from-objects-8 c = search needs
 
-loop-less-8 : tie.Need-loop-less-8 Inv-loop μ-loop
-loop-less-8 c = omega (arith, all-ended-less (runs (c .before .before .before)) (c .before .enum-told3 .given .1) (c .leak-check .result))
+loop-less-25 : tie.Need-loop-less-25 Inv-loop μ-loop
+loop-less-25 c = omega (arith, arm-less (c .before .before .before .before .before .before) (spurred (it (c .before .before .before .before .before .before)) (ts (here (loud (c .before .before .before .before .before .before))))) (spurs-is (c .before .before .before .before)) _ (settles-is (m (loud (c .before .before .before .before .before .before))) (work' (c .before .before .before .before .before .before)) _))
 
-loop-again-8 : tie.Need-loop-again-8 Inv-loop μ-loop
-loop-again-8 c = (all-ended (runs (c .before .before .before)) (c .before .enum-told3 .given .1) _ (c .leak-check .ensures), six (c .before .before .before))
+loop-again-25 : tie.Need-loop-again-25 Inv-loop μ-loop
+loop-again-25 c = (arm-kept (c .before .before .before .before .before .before) (spurred (it (c .before .before .before .before .before .before)) (ts (here (loud (c .before .before .before .before .before .before))))) (spurs-is (c .before .before .before .before)) _ (settles-is (m (loud (c .before .before .before .before .before .before))) (work' (c .before .before .before .before .before .before)) _) refl _ (ap (λ (y : Entry). putEntry (es (here (loud (c .before .before .before .before .before .before)))) (about (loud (c .before .before .before .before .before .before)) .object) (putNotify y (c .spur .result))) (there (c .before .before .before .before .before .before) _ (c .before .before .before .if30 .taken)) ∙ ap (λ (q : NotifyState). putEntry (es (here (loud (c .before .before .before .before .before .before)))) (about (loud (c .before .before .before .before .before .before)) .object) (putNotify (it (c .before .before .before .before .before .before)) q)) (c .spur .ensures ∙ ap (λ (y : Entry). spur (y .notify)) (there (c .before .before .before .before .before .before) _ (c .before .before .before .if30 .taken)))), six (here (loud (c .before .before .before .before .before .before))))
+
+loop-less-26 : tie.Need-loop-less-26 Inv-loop μ-loop
+loop-less-26 c = omega (arith, arm-less (c .before .before .before) (spurred (it (c .before .before .before)) (ts (here (loud (c .before .before .before))))) (spurs-is (c .before)) _ (settles-is (m (loud (c .before .before .before))) (work' (c .before .before .before)) _))
+
+loop-again-26 : tie.Need-loop-again-26 Inv-loop μ-loop
+loop-again-26 c = (arm-kept (c .before .before .before) (spurred (it (c .before .before .before)) (ts (here (loud (c .before .before .before))))) (spurs-is (c .before)) _ (settles-is (m (loud (c .before .before .before))) (work' (c .before .before .before)) _) refl _ (unput (c .before .before .before) _ (c .if30 .left)), six (here (loud (c .before .before .before))))
 
 enum-known-acting-2 : tie.Need-enum-known-acting-2 Inv-loop μ-loop
 enum-known-acting-2 c = search needs
 
+who-requires-3 : tie.Need-who-requires-3 Inv-loop μ-loop
+who-requires-3 c κs = search needs
+
+cast-i-3 : tie.Need-cast-i-3 Inv-loop μ-loop
+cast-i-3 c = search needs
+
+mul-x-3 : tie.Need-mul-x-3 Inv-loop μ-loop
+mul-x-3 c = search needs
+
+array-copy-out-x-3 : tie.Need-array-copy-out-x-3 Inv-loop μ-loop
+array-copy-out-x-3 c = search needs
+
+absent-requires-5 : tie.Need-absent-requires-5 Inv-loop μ-loop
+absent-requires-5 c κs = search needs
+
+cast-o-2 : tie.Need-cast-o-2 Inv-loop μ-loop
+cast-o-2 c = search needs
+
+absent-requires-6 : tie.Need-absent-requires-6 Inv-loop μ-loop
+absent-requires-6 c κs = search needs
+
+mul-e-17 : tie.Need-mul-e-17 Inv-loop μ-loop
+mul-e-17 c = search needs
+
+array-copy-out-e-17 : tie.Need-array-copy-out-e-17 Inv-loop μ-loop
+array-copy-out-e-17 c = search needs
+
+action-of-requires : tie.Need-action-of-requires Inv-loop μ-loop
+action-of-requires c κs = search needs
+
+version-requires : tie.Need-version-requires Inv-loop μ-loop
+version-requires c κs = search needs
+
+turn-in-requires : tie.Need-turn-in-requires Inv-loop μ-loop
+turn-in-requires c κs = search needs
+
+asked-in-requires : tie.Need-asked-in-requires Inv-loop μ-loop
+asked-in-requires c κs = search needs
+
+follows-requires : tie.Need-follows-requires Inv-loop μ-loop
+follows-requires c κs = search needs
+
+stands-requires : tie.Need-stands-requires Inv-loop μ-loop
+stands-requires c κs = search needs
+
+mul-threads-2 : tie.Need-mul-threads-2 Inv-loop μ-loop
+mul-threads-2 c = search needs
+
+array-set-from-threads-2 : tie.Need-array-set-from-threads-2 Inv-loop μ-loop
+array-set-from-threads-2 c = search needs
+
+noted-in-requires : tie.Need-noted-in-requires Inv-loop μ-loop
+noted-in-requires c κs = search needs
+
+enum-told-3 : tie.Need-enum-told-3 Inv-loop μ-loop
+enum-told-3 c = search needs
+
+mul-e-18 : tie.Need-mul-e-18 Inv-loop μ-loop
+mul-e-18 c = search needs
+
+array-copy-out-e-18 : tie.Need-array-copy-out-e-18 Inv-loop μ-loop
+array-copy-out-e-18 c = search needs
+
+mutex-accessed-requires : tie.Need-mutex-accessed-requires Inv-loop μ-loop
+mutex-accessed-requires c κs = search needs
+
+mul-objects-9 : tie.Need-mul-objects-9 Inv-loop μ-loop
+mul-objects-9 c = search needs
+
+array-set-from-objects-9 : tie.Need-array-set-from-objects-9 Inv-loop μ-loop
+array-set-from-objects-9 c = search needs
+
+loop-less-27 : tie.Need-loop-less-27 Inv-loop μ-loop
+loop-less-27 c = omega (arith, settle-less (tl (c .before .before .before .before .before .before .before)))
+
+loop-again-27 : tie.Need-loop-again-27 Inv-loop μ-loop
+loop-again-27 c = (settle-next (c .before .before .before .before .before .before .before) _ (recorded-in (c .before .before .before .before .before .before .before) (c .before .before .before .before .before .noted-in .result) (c .before .before .before .before .before .noted-in .ensures) (c .before .before .before .before .before .before .if34 .taken) _ _ (ap (putEntry (es (at' (tl (c .before .before .before .before .before .before .before)))) (wk (tl (c .before .before .before .before .before .before .before)) .object)) (note-mutex (access (tl (c .before .before .before .before .before .before .before))) _ (c .before .before .before .enum-told3 .given .1) _ (c .mutex-accessed .ensures)))), stood-six (c .before .before .before .before .before .before .before))
+
+enum-told-4 : tie.Need-enum-told-4 Inv-loop μ-loop
+enum-told-4 c = search needs
+
+mul-e-19 : tie.Need-mul-e-19 Inv-loop μ-loop
+mul-e-19 c = search needs
+
+array-copy-out-e-19 : tie.Need-array-copy-out-e-19 Inv-loop μ-loop
+array-copy-out-e-19 c = search needs
+
+rwlock-accessed-requires : tie.Need-rwlock-accessed-requires Inv-loop μ-loop
+rwlock-accessed-requires c κs = search needs
+
+mul-objects-10 : tie.Need-mul-objects-10 Inv-loop μ-loop
+mul-objects-10 c = search needs
+
+array-set-from-objects-10 : tie.Need-array-set-from-objects-10 Inv-loop μ-loop
+array-set-from-objects-10 c = search needs
+
+loop-less-28 : tie.Need-loop-less-28 Inv-loop μ-loop
+loop-less-28 c = omega (arith, settle-less (tl (c .before .before .before .before .before .before .before)))
+
+loop-again-28 : tie.Need-loop-again-28 Inv-loop μ-loop
+loop-again-28 c = (settle-next (c .before .before .before .before .before .before .before) _ (recorded-in (c .before .before .before .before .before .before .before) (c .before .before .before .before .before .noted-in .result) (c .before .before .before .before .before .noted-in .ensures) (c .before .before .before .before .before .before .if34 .taken) _ _ (ap (putEntry (es (at' (tl (c .before .before .before .before .before .before .before)))) (wk (tl (c .before .before .before .before .before .before .before)) .object)) (note-rwlock (access (tl (c .before .before .before .before .before .before .before))) _ (c .before .before .before .enum-told4 .given .1) _ (c .rwlock-accessed .ensures)))), stood-six (c .before .before .before .before .before .before .before))
+
+enum-told-5 : tie.Need-enum-told-5 Inv-loop μ-loop
+enum-told-5 c = search needs
+
+mul-e-20 : tie.Need-mul-e-20 Inv-loop μ-loop
+mul-e-20 c = search needs
+
+array-copy-out-e-20 : tie.Need-array-copy-out-e-20 Inv-loop μ-loop
+array-copy-out-e-20 c = search needs
+
+condvar-accessed-requires : tie.Need-condvar-accessed-requires Inv-loop μ-loop
+condvar-accessed-requires c κs = search needs
+
+mul-objects-11 : tie.Need-mul-objects-11 Inv-loop μ-loop
+mul-objects-11 c = search needs
+
+array-set-from-objects-11 : tie.Need-array-set-from-objects-11 Inv-loop μ-loop
+array-set-from-objects-11 c = search needs
+
+loop-less-29 : tie.Need-loop-less-29 Inv-loop μ-loop
+loop-less-29 c = omega (arith, settle-less (tl (c .before .before .before .before .before .before .before)))
+
+loop-again-29 : tie.Need-loop-again-29 Inv-loop μ-loop
+loop-again-29 c = (settle-next (c .before .before .before .before .before .before .before) _ (recorded-in (c .before .before .before .before .before .before .before) (c .before .before .before .before .before .noted-in .result) (c .before .before .before .before .before .noted-in .ensures) (c .before .before .before .before .before .before .if34 .taken) _ _ (ap (putEntry (es (at' (tl (c .before .before .before .before .before .before .before)))) (wk (tl (c .before .before .before .before .before .before .before)) .object)) (note-condvar (access (tl (c .before .before .before .before .before .before .before))) _ (c .before .before .before .enum-told5 .given .1) _ (c .condvar-accessed .ensures)))), stood-six (c .before .before .before .before .before .before .before))
+
+enum-told-6 : tie.Need-enum-told-6 Inv-loop μ-loop
+enum-told-6 c = search needs
+
+mul-e-21 : tie.Need-mul-e-21 Inv-loop μ-loop
+mul-e-21 c = search needs
+
+array-copy-out-e-21 : tie.Need-array-copy-out-e-21 Inv-loop μ-loop
+array-copy-out-e-21 c = search needs
+
+notify-accessed-requires : tie.Need-notify-accessed-requires Inv-loop μ-loop
+notify-accessed-requires c κs = search needs
+
+mul-objects-12 : tie.Need-mul-objects-12 Inv-loop μ-loop
+mul-objects-12 c = search needs
+
+array-set-from-objects-12 : tie.Need-array-set-from-objects-12 Inv-loop μ-loop
+array-set-from-objects-12 c = search needs
+
+loop-less-30 : tie.Need-loop-less-30 Inv-loop μ-loop
+loop-less-30 c = omega (arith, settle-less (tl (c .before .before .before .before .before .before .before)))
+
+loop-again-30 : tie.Need-loop-again-30 Inv-loop μ-loop
+loop-again-30 c = (settle-next (c .before .before .before .before .before .before .before) _ (recorded-in (c .before .before .before .before .before .before .before) (c .before .before .before .before .before .noted-in .result) (c .before .before .before .before .before .noted-in .ensures) (c .before .before .before .before .before .before .if34 .taken) _ _ (ap (putEntry (es (at' (tl (c .before .before .before .before .before .before .before)))) (wk (tl (c .before .before .before .before .before .before .before)) .object)) (note-notify (access (tl (c .before .before .before .before .before .before .before))) _ (c .before .before .before .enum-told6 .given .1) _ (c .notify-accessed .ensures)))), stood-six (c .before .before .before .before .before .before .before))
+
+enum-known-a : tie.Need-enum-known-a Inv-loop μ-loop
+enum-known-a c = search needs
+
+mul-e-22 : tie.Need-mul-e-22 Inv-loop μ-loop
+mul-e-22 c = search needs
+
+array-copy-out-e-22 : tie.Need-array-copy-out-e-22 Inv-loop μ-loop
+array-copy-out-e-22 c = search needs
+
+set-last-access-requires : tie.Need-set-last-access-requires Inv-loop μ-loop
+set-last-access-requires c κs = search needs
+
+mul-objects-13 : tie.Need-mul-objects-13 Inv-loop μ-loop
+mul-objects-13 c = search needs
+
+array-set-from-objects-13 : tie.Need-array-set-from-objects-13 Inv-loop μ-loop
+array-set-from-objects-13 c = search needs
+
+loop-less-31 : tie.Need-loop-less-31 Inv-loop μ-loop
+loop-less-31 c = omega (arith, settle-less (tl (c .before .before .before .before .before .before .before .before)))
+
+loop-again-31 : tie.Need-loop-again-31 Inv-loop μ-loop
+loop-again-31 c = (settle-next (c .before .before .before .before .before .before .before .before) _ (recorded-in (c .before .before .before .before .before .before .before .before) (c .before .before .before .before .before .before .noted-in .result) (c .before .before .before .before .before .before .noted-in .ensures) (c .before .before .before .before .before .before .before .if34 .taken) _ _ (ap (putEntry (es (at' (tl (c .before .before .before .before .before .before .before .before)))) (wk (tl (c .before .before .before .before .before .before .before .before)) .object)) (note-channel (access (tl (c .before .before .before .before .before .before .before .before))) _ (c .before .before .before .before .a .given .1) _ (c .set-last-access .ensures)))), stood-six (c .before .before .before .before .before .before .before .before))
+
+enum-known-a-2 : tie.Need-enum-known-a-2 Inv-loop μ-loop
+enum-known-a-2 c = search needs
+
+mul-e-23 : tie.Need-mul-e-23 Inv-loop μ-loop
+mul-e-23 c = search needs
+
+array-copy-out-e-23 : tie.Need-array-copy-out-e-23 Inv-loop μ-loop
+array-copy-out-e-23 c = search needs
+
+set-last-access-requires-2 : tie.Need-set-last-access-requires-2 Inv-loop μ-loop
+set-last-access-requires-2 c κs = search needs
+
+mul-objects-14 : tie.Need-mul-objects-14 Inv-loop μ-loop
+mul-objects-14 c = search needs
+
+array-set-from-objects-14 : tie.Need-array-set-from-objects-14 Inv-loop μ-loop
+array-set-from-objects-14 c = search needs
+
+loop-less-32 : tie.Need-loop-less-32 Inv-loop μ-loop
+loop-less-32 c = omega (arith, settle-less (tl (c .before .before .before .before .before .before .before .before)))
+
+loop-again-32 : tie.Need-loop-again-32 Inv-loop μ-loop
+loop-again-32 c = (settle-next (c .before .before .before .before .before .before .before .before) _ (recorded-in (c .before .before .before .before .before .before .before .before) (c .before .before .before .before .before .before .noted-in .result) (c .before .before .before .before .before .before .noted-in .ensures) (c .before .before .before .before .before .before .before .if34 .taken) _ _ (ap (putEntry (es (at' (tl (c .before .before .before .before .before .before .before .before)))) (wk (tl (c .before .before .before .before .before .before .before .before)) .object)) (note-arc (access (tl (c .before .before .before .before .before .before .before .before))) _ (c .before .before .before .before .a2 .given .1) _ (c .set-last-access2 .ensures)))), stood-six (c .before .before .before .before .before .before .before .before))
+
+enum-told-7 : tie.Need-enum-told-7 Inv-loop μ-loop
+enum-told-7 c = search needs
+
+loop-less-33 : tie.Need-loop-less-33 Inv-loop μ-loop
+loop-less-33 c = omega (arith, settle-less (tl (c .before .before .before .before)))
+
+loop-again-33 : tie.Need-loop-again-33 Inv-loop μ-loop
+loop-again-33 c = (settle-next (c .before .before .before .before) _ (recorded-in (c .before .before .before .before) (c .before .before .noted-in .result) (c .before .before .noted-in .ensures) (c .before .before .before .if34 .taken) (newEntry noObject) _ (sym (set-getD (es (at' (tl (c .before .before .before .before)))) (wk (tl (c .before .before .before .before)) .object .0) (newEntry noObject)) ∙ ap (putEntry (es (at' (tl (c .before .before .before .before)))) (wk (tl (c .before .before .before .before)) .object)) (note-nowhere (access (tl (c .before .before .before .before))) _ (c .enum-told7 .given .1)))), stood-six (c .before .before .before .before))
+
+loop-less-34 : tie.Need-loop-less-34 Inv-loop μ-loop
+loop-less-34 c = omega (arith, settle-less (tl (c .before)))
+
+loop-again-34 : tie.Need-loop-again-34 Inv-loop μ-loop
+loop-again-34 c = (settle-next (c .before) _ (sym (set-out (es (at' (tl (c .before)))) (wk (tl (c .before)) .object .0) _ (omega (arith, c .if34 .left, runs (at' (tl (c .before))) .all)))), stood-six (c .before))
+
+enum-told-8 : tie.Need-enum-told-8 Inv-loop μ-loop
+enum-told-8 c = search needs
+
+after-requires : tie.Need-after-requires Inv-loop μ-loop
+after-requires c κs = search needs
+
+loop-less-35 : tie.Need-loop-less-35 Inv-loop μ-loop
+loop-less-35 c = omega (arith, turn-over-less (runs (c .before .before .before)) (c .before .enum-told8 .given .1) _ (c .after .ensures))
+
+loop-again-35 : tie.Need-loop-again-35 Inv-loop μ-loop
+loop-again-35 c = (turn-over (runs (c .before .before .before)) (c .before .enum-told8 .given .1) _ (c .after .ensures), six (c .before .before .before))
+
+enum-told-9 : tie.Need-enum-told-9 Inv-loop μ-loop
+enum-told-9 c = search needs
+
+leak-check-requires : tie.Need-leak-check-requires Inv-loop μ-loop
+leak-check-requires c κs = search needs
+
+loop-less-36 : tie.Need-loop-less-36 Inv-loop μ-loop
+loop-less-36 c = omega (arith, all-ended-less (runs (c .before .before .before)) (c .before .enum-told9 .given .1) (c .leak-check .result))
+
+loop-again-36 : tie.Need-loop-again-36 Inv-loop μ-loop
+loop-again-36 c = (all-ended (runs (c .before .before .before)) (c .before .enum-told9 .given .1) _ (c .leak-check .ensures), six (c .before .before .before))
+
+enum-known-acting-3 : tie.Need-enum-known-acting-3 Inv-loop μ-loop
+enum-known-acting-3 c = search needs
+
 returns-3 : tie.Need-returns-3 Inv-loop μ-loop
-returns-3 c = surplus-left (runs (c .before .before .before .before)) _ (c .before .before .acting2 .given .1) (c .if13 .taken)
+returns-3 c = surplus-left (runs (c .before .before .before .before)) _ (c .before .before .acting3 .given .1) (c .if35 .taken)
 
 came-to-requires-2 : tie.Need-came-to-requires-2 Inv-loop μ-loop
 came-to-requires-2 c κs = search needs
 
 returns-4 : tie.Need-returns-4 Inv-loop μ-loop
-returns-4 c = c .came-to2 .ensures ∙ verdict-reached (runs (c .before .before .before .before .before)) _ (c .before .before .before .acting2 .given .1) (c .before .if13 .left)
+returns-4 c = c .came-to2 .ensures ∙ verdict-reached (runs (c .before .before .before .before .before)) _ (c .before .before .before .acting3 .given .1) (c .before .if35 .left)
 
 pub run-spec : {M : Type 1} → statement M
 run-spec =
@@ -562,20 +1295,17 @@ run-spec =
     loop-again-2
     loop-less-3
     loop-again-3
+    op-in-requires
+    absent-requires-4
+    deed-in-requires
+    enum-known-c
     mul-e-2
     array-copy-out-e-2
-    absent-requires-4
-    op-in-requires
-    turn-in-requires
-    loudly-requires
-    follows-requires
+    mutex-effect-requires
+    comes-to-requires
     is-fine-requires
-    mul-stood
-    element-copy-out-stood
-    settled-requires
-    mul-threads-2
-    way-write-given-threads
-    asked-in-requires
+    mul-e-3
+    array-copy-out-e-3
     mul-objects
     array-set-from-objects
     loop-less-4
@@ -584,15 +1314,193 @@ run-spec =
     loop-again-5
     loop-less-6
     loop-again-6
-    enum-told-2
-    after-requires
+    enum-known-c-2
+    mul-e-4
+    array-copy-out-e-4
+    rwlock-effect-requires
+    comes-to-requires-2
+    is-fine-requires-2
+    mul-e-5
+    array-copy-out-e-5
+    mul-objects-2
+    array-set-from-objects-2
     loop-less-7
     loop-again-7
-    enum-told-3
-    leak-check-requires
     loop-less-8
     loop-again-8
+    loop-less-9
+    loop-again-9
+    enum-known-c-3
+    mul-e-6
+    array-copy-out-e-6
+    condvar-effect-requires
+    comes-to-requires-3
+    is-fine-requires-3
+    mul-e-7
+    array-copy-out-e-7
+    mul-objects-3
+    array-set-from-objects-3
+    loop-less-10
+    loop-again-10
+    loop-less-11
+    loop-again-11
+    loop-less-12
+    loop-again-12
+    enum-known-c-4
+    mul-e-8
+    array-copy-out-e-8
+    notify-effect-requires
+    comes-to-requires-4
+    is-fine-requires-4
+    mul-e-9
+    array-copy-out-e-9
+    mul-objects-4
+    array-set-from-objects-4
+    loop-less-13
+    loop-again-13
+    loop-less-14
+    loop-again-14
+    loop-less-15
+    loop-again-15
+    enum-known-c-5
+    mul-e-10
+    array-copy-out-e-10
+    channel-effect-requires
+    comes-to-requires-5
+    is-fine-requires-5
+    mul-e-11
+    array-copy-out-e-11
+    mul-objects-5
+    array-set-from-objects-5
+    loop-less-16
+    loop-again-16
+    loop-less-17
+    loop-again-17
+    loop-less-18
+    loop-again-18
+    enum-known-c-6
+    mul-e-12
+    array-copy-out-e-12
+    arc-effect-requires
+    comes-to-requires-6
+    is-fine-requires-6
+    mul-e-13
+    array-copy-out-e-13
+    mul-objects-6
+    array-set-from-objects-6
+    loop-less-19
+    loop-again-19
+    loop-less-20
+    loop-again-20
+    loop-less-21
+    loop-again-21
+    enum-known-c-7
+    mul-e-14
+    array-copy-out-e-14
+    cell-effect-requires
+    comes-to-requires-7
+    is-fine-requires-7
+    mul-e-15
+    array-copy-out-e-15
+    mul-objects-7
+    array-set-from-objects-7
+    loop-less-22
+    loop-again-22
+    loop-less-23
+    loop-again-23
+    loop-less-24
+    loop-again-24
+    enum-told-2
+    mul-e-16
+    array-copy-out-e-16
+    spur-requires
+    mul-objects-8
+    array-set-from-objects-8
+    loop-less-25
+    loop-again-25
+    loop-less-26
+    loop-again-26
     enum-known-acting-2
+    who-requires-3
+    cast-i-3
+    mul-x-3
+    array-copy-out-x-3
+    absent-requires-5
+    cast-o-2
+    absent-requires-6
+    mul-e-17
+    array-copy-out-e-17
+    action-of-requires
+    version-requires
+    turn-in-requires
+    asked-in-requires
+    follows-requires
+    stands-requires
+    mul-threads-2
+    array-set-from-threads-2
+    noted-in-requires
+    enum-told-3
+    mul-e-18
+    array-copy-out-e-18
+    mutex-accessed-requires
+    mul-objects-9
+    array-set-from-objects-9
+    loop-less-27
+    loop-again-27
+    enum-told-4
+    mul-e-19
+    array-copy-out-e-19
+    rwlock-accessed-requires
+    mul-objects-10
+    array-set-from-objects-10
+    loop-less-28
+    loop-again-28
+    enum-told-5
+    mul-e-20
+    array-copy-out-e-20
+    condvar-accessed-requires
+    mul-objects-11
+    array-set-from-objects-11
+    loop-less-29
+    loop-again-29
+    enum-told-6
+    mul-e-21
+    array-copy-out-e-21
+    notify-accessed-requires
+    mul-objects-12
+    array-set-from-objects-12
+    loop-less-30
+    loop-again-30
+    enum-known-a
+    mul-e-22
+    array-copy-out-e-22
+    set-last-access-requires
+    mul-objects-13
+    array-set-from-objects-13
+    loop-less-31
+    loop-again-31
+    enum-known-a-2
+    mul-e-23
+    array-copy-out-e-23
+    set-last-access-requires-2
+    mul-objects-14
+    array-set-from-objects-14
+    loop-less-32
+    loop-again-32
+    enum-told-7
+    loop-less-33
+    loop-again-33
+    loop-less-34
+    loop-again-34
+    enum-told-8
+    after-requires
+    loop-less-35
+    loop-again-35
+    enum-told-9
+    leak-check-requires
+    loop-less-36
+    loop-again-36
+    enum-known-acting-3
     returns-3
     came-to-requires-2
     returns-4)

@@ -4,7 +4,7 @@ use Prim.Native.Nat.{_-_}
 use borrow.Author.Needs.{needs}
 use Rattle.lists.specs.Greedy.{seek}
 use Rattle.lists.specs.Code.{seek-end, seek-hit, seek-miss}
-use Rattle.turns.specs.Run.{isAllowed}
+use Rattle.turns.specs.Step.{isAllowed}
 use Rattle.walk.proofs.walk.least.Statement.{statement}
 use Rattle.walk.proofs.walk.least.Tie as tie
 
