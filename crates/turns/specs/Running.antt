@@ -1,6 +1,6 @@
 -- What holds in a run from step to step, a law for each kind of step, as the loop asks for them.
 use mathlib.Core.Path.{_≡_, refl, sym, _∙_, ap}
-use mathlib.Core.Bool.{Bool, true, false, false≢true}
+use mathlib.Core.Bool.{Bool, true, false}
 use mathlib.Core.List.{List, [], _∷_}
 use Prim.Native.Nat.{ℕ, zero, suc, _+_, _-_, _*_, _≤_, _<_}
 use native.Mathlib.Omega.{arith}
@@ -9,13 +9,11 @@ use Rattle.clocks.specs.Lists.{getD-within}
 use Rattle.lists.specs.Judge.{judge}
 use Rattle.rules.specs.declared.object.ObjectId.{ObjectId}
 use Rattle.rules.specs.declared.object.Entry.{Entry}
-use Rattle.rules.specs.declared.object.Ending.{Ending}
 use Rattle.rules.specs.declared.thread.Thread.{Thread}
 use Rattle.rules.specs.declared.table.Op.{Op}
 use Rattle.rules.specs.declared.table.Table.{Table}
 use Rattle.rules.specs.declared.answer.Answer.{Answer}
 use Rattle.rules.specs.declared.world.Asked.{Asked}
-use Rattle.rules.specs.declared.world.Effect.{Effect}
 use Rattle.rules.specs.declared.world.World.{World}
 use Rattle.rules.specs.Object.{newEntry, noObject, entryAt, putEntry}
 use Rattle.rules.specs.Table.{noOp}
@@ -28,7 +26,6 @@ use Rattle.turns.specs.declared.step.Scene.{Scene}
 use Rattle.turns.specs.declared.step.Moved.{Moved}
 use Rattle.turns.specs.declared.run.End.the-variants as end
 use Rattle.turns.specs.Step.{subject, act, placeOf, isAllowed, chosen}
-use Rattle.turns.specs.Loud.{isFine}
 use Rattle.turns.specs.Run.{leftOf, opOf, after, decided, rest, Running, weight, ranOf}
 use Rattle.turns.specs.RunLaws.{rest-end, rest-refused, rest-chosen, rest-over, rest-all-ended, rest-verdict, rest-surplus, rest-act, act-lighter, after-light, chosen-weight}
 
@@ -144,41 +141,6 @@ module _ (table : Table) (ts : List Thread) (m : Move) (k : ℕ) (at : k ≡ pla
   op-none h =
       let past : length (table .ops) ≤ k = omega (arith, h, l) in
       sym (List·getD-eq-default (table .ops) noOp past) ∙ ap (λ (j : ℕ). getD (table .ops) j noOp) at
-
--- what a deed leaves: of one that is fine the threads and its object, of one that fails nothing
-pub record Deeded (done : Effect) (ts : List Thread) (es : List Entry) (o : ObjectId) (x : Ending) (us : List Thread) (fs : List Entry) : Type 0 where
-  pub is-ending : x ≡ done .ending
-  pub six : length us ≡ 6
-  pub threads-kept : isFine (done .ending) ≡ true → us ≡ done .threads
-  pub objects-kept : isFine (done .ending) ≡ true → fs ≡ putEntry es o (done .entry)
-  pub threads-left : isFine (done .ending) ≡ false → us ≡ ts
-  pub objects-left : isFine (done .ending) ≡ false → fs ≡ es
-
-told-as : {done r : Effect} {b : Bool} → done ≡ r → isFine (r .ending) ≡ b → isFine (done .ending) ≡ b
-told-as is h = ap (λ (y : Effect). isFine (y .ending)) is ∙ h
-
-module _ {done : Effect} {ts : List Thread} {es : List Entry} {o : ObjectId} {x : Ending} {us : List Thread} {fs : List Entry} (r : Effect) (is : done ≡ r) (ends : x ≡ r .ending) where
-  pub deed-kept : isFine (r .ending) ≡ true → length (r .threads) ≡ 6 → us ≡ r .threads → fs ≡ putEntry es o (r .entry) → Deeded done ts es o x us fs
-  deed-kept h l p q =
-      record {
-        is-ending = ends ∙ ap (λ (y : Effect). y .ending) (sym is);
-        six = ap (λ (vs : List Thread). length vs) p ∙ l;
-        threads-kept = λ f. p ∙ ap (λ (y : Effect). y .threads) (sym is);
-        objects-kept = λ f. q ∙ ap (λ (y : Effect). putEntry es o (y .entry)) (sym is);
-        threads-left = λ f. absurd (false≢true (sym f ∙ told-as is h));
-        objects-left = λ f. absurd (false≢true (sym f ∙ told-as is h));
-      }
-
-  pub deed-left : isFine (r .ending) ≡ false → length ts ≡ 6 → us ≡ ts → fs ≡ es → Deeded done ts es o x us fs
-  deed-left h l p q =
-      record {
-        is-ending = ends ∙ ap (λ (y : Effect). y .ending) (sym is);
-        six = ap (λ (vs : List Thread). length vs) p ∙ l;
-        threads-kept = λ f. absurd (false≢true (sym (told-as is h) ∙ f));
-        objects-kept = λ f. absurd (false≢true (sym (told-as is h) ∙ f));
-        threads-left = λ f. p;
-        objects-left = λ f. q;
-      }
 
 -- an object put back, and changed again in its place
 pub set-then : {A : Type 0} (xs : List A) (i : ℕ) (a d : A) (f : A → A) → set (set xs i a) i (f (getD (set xs i a) i d)) ≡ set xs i (f a)
