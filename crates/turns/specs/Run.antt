@@ -17,7 +17,6 @@ use Rattle.rules.specs.declared.table.Op.{Op}
 use Rattle.rules.specs.declared.table.Table.{Table}
 use Rattle.rules.specs.declared.answer.Answer.the-variants.{Deadlock, More, NotAllowed, Surplus}
 use Rattle.rules.specs.declared.world.Asked.{Asked}
-use Rattle.rules.specs.declared.world.Asked.the-variants as asked
 use Rattle.rules.specs.declared.world.World.{World}
 use Rattle.rules.specs.declared.world.Decided.{Decided}
 use Rattle.rules.specs.Ground.{flag}
