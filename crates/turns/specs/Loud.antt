@@ -288,13 +288,14 @@ failed-fine (ending.Race x) spot z h = absurd (false≢true h)
 abbrev pub changed : List Thread → ThreadId → (Thread → Thread) → List Thread
 changed ts t f = putThread ts t (f (threadAt ts t))
 
-set-twice : (ts : List Thread) (i : ℕ) (f g : Thread → Thread) → set (set ts i (f (getD ts i absent))) i (g (getD (set ts i (f (getD ts i absent))) i absent)) ≡ set ts i (g (f (getD ts i absent)))
-set-twice [] i f g = refl
-set-twice (x ∷ ts) zero f g = refl
-set-twice (x ∷ ts) (suc i) f g = ap (λ (us : List Thread). x ∷ us) (set-twice ts i f g)
+-- an element put back, and changed again in its place
+pub set-then : {A : Type 0} (xs : List A) (i : ℕ) (a d : A) (f : A → A) → set (set xs i a) i (f (getD (set xs i a) i d)) ≡ set xs i (f a)
+set-then [] i a d f = refl
+set-then (x ∷ xs) zero a d f = refl
+set-then (x ∷ xs) (suc i) a d f = ap (λ ys. x ∷ ys) (set-then xs i a d f)
 
 changed-twice : (ts : List Thread) (t : ThreadId) (f g : Thread → Thread) → changed (changed ts t f) t g ≡ changed ts t (λ x. g (f x))
-changed-twice ts t f g = set-twice ts (t .0) f g
+changed-twice ts t f g = set-then ts (t .0) (f (threadAt ts t)) absent g
 
 thereafter-is : (c : Call) (t : ThreadId) (p : ℕ) (s : Scene)
     → thereafter c t p s ≡ record { acting = nextOf c t (risen 255 p); scene = with s (s .entry) (changed (s .threads) t (λ x. withPosition x (afterwards c (x .position)))) }

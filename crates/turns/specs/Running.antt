@@ -1,10 +1,10 @@
 -- What holds in a run from step to step, a law for each kind of step, as the loop asks for them.
 use mathlib.Core.Path.{_≡_, refl, sym, _∙_, ap}
 use mathlib.Core.Bool.{Bool, true, false}
-use mathlib.Core.List.{List, [], _∷_}
-use Prim.Native.Nat.{ℕ, zero, suc, _+_, _-_, _*_, _≤_, _<_}
+use mathlib.Core.List.{List}
+use Prim.Native.Nat.{ℕ, _+_, _-_, _*_, _≤_, _<_}
 use native.Mathlib.Omega.{arith}
-use lib.ListN.{length, getD, set, length-set, List·getD-eq-default}
+use lib.ListN.{length, getD, length-set, List·getD-eq-default}
 use Rattle.clocks.specs.Lists.{getD-within}
 use Rattle.lists.specs.Judge.{judge}
 use Rattle.rules.specs.declared.object.ObjectId.{ObjectId}
@@ -141,9 +141,3 @@ module _ (table : Table) (ts : List Thread) (m : Move) (k : ℕ) (at : k ≡ pla
   op-none h =
       let past : length (table .ops) ≤ k = omega (arith, h, l) in
       sym (List·getD-eq-default (table .ops) noOp past) ∙ ap (λ (j : ℕ). getD (table .ops) j noOp) at
-
--- an object put back, and changed again in its place
-pub set-then : {A : Type 0} (xs : List A) (i : ℕ) (a d : A) (f : A → A) → set (set xs i a) i (f (getD (set xs i a) i d)) ≡ set xs i (f a)
-set-then [] i a d f = refl
-set-then (x ∷ xs) zero a d f = refl
-set-then (x ∷ xs) (suc i) a d f = ap (λ ys. x ∷ ys) (set-then xs i a d f)

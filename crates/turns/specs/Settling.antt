@@ -40,10 +40,10 @@ use Rattle.turns.specs.declared.step.Acting.the-variants.{Moves, Settles
 use Rattle.turns.specs.declared.step.Scene.{Scene}
 use Rattle.turns.specs.declared.step.Moved.{Moved}
 use Rattle.turns.specs.Quiet.{who, rests, isQuiet, subjectIn, subject-in}
-use Rattle.turns.specs.Loud.{again, opIn, deedIn, does, does-of, isFine, failedAs, follows, comesTo, followsThen, versionIn, stands, changed, notedIn, note, turnIn, askedIn, work, doneBy, sceneBy, version-before, loud-fine, loud-fails}
+use Rattle.turns.specs.Loud.{again, opIn, deedIn, does, does-of, isFine, failedAs, follows, comesTo, followsThen, versionIn, stands, changed, notedIn, note, turnIn, askedIn, work, doneBy, sceneBy, version-before, loud-fine, loud-fails, set-then}
 use Rattle.turns.specs.Run.{worldOf, settledIn, rest, Running, weight, settleWeight}
 use Rattle.turns.specs.RunLaws.{comes-lighter, settle-lighter, rest-settles}
-use Rattle.turns.specs.Running.{Found, acted, set-then}
+use Rattle.turns.specs.Running.{Found, acted}
 
 -- the object of a loud move is that of its operation
 again-subject : (p : Phase) (t : ThreadId) (op : Op) → rests p ≡ false → subjectIn p (Begins t) op ≡ again p op .object
