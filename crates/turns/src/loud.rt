@@ -321,6 +321,7 @@ pub fn follows(m: Move, call: Call, position: u8) -> Acting
     }
 }
 
+// The states with an access recorded (loom's set_last_access); an Arc and a channel go by the action and have their own.
 pub fn mutex_accessed(s: mutex::State, x: Access) -> mutex::State
     ensures { λ r. ⌜ r ≡ mutexAccessed s x ⌝ }
 {
