@@ -2,11 +2,12 @@
 ghost use mathlib.Core.Path.{_≡_};
 ghost use mathlib.Core.List.{[], _∷_, _++_};
 ghost use lib.ListN.{getD, drop, take, replicate};
-ghost use Rattle.rules.specs.Condvar.{nobody, new, queued, notifyOne, unparkEach, notifyAll};
+ghost use Rattle.rules.specs.Condvar.{nobody, new, withAccess, queued, notifyOne, unparkEach, notifyAll};
 use crate::access;
 use crate::thread::unpark_thread;
 use clocks::THREADS;
 use clocks::ThreadId;
+use rules::access::Access;
 use rules::condvar::Notified;
 use rules::condvar::Queued;
 use rules::condvar::State;
@@ -142,4 +143,12 @@ pub fn notify_all(state: State, threads: [Thread; THREADS], active: ThreadId) ->
         },
         threads: woken,
     }
+}
+
+pub fn set_last_access(access: Access, state: State) -> State
+    ensures { λ r. ⌜ r ≡ withAccess state access ⌝ }
+{
+    let mut next = state;
+    next.last_access = access;
+    next
 }

@@ -1,6 +1,6 @@
 // loom's rt/mutex.rs.
 ghost use mathlib.Core.Path.{_≡_};
-ghost use Rattle.rules.specs.Mutex.{new, isLocked, postAcquire, releaseLock};
+ghost use Rattle.rules.specs.Mutex.{new, withAccess, isLocked, postAcquire, releaseLock};
 use crate::access;
 use crate::thread::others;
 use crate::thread::sync_load;
@@ -8,6 +8,7 @@ use crate::thread::sync_store;
 use clocks::Clock;
 use clocks::THREADS;
 use clocks::ThreadId;
+use rules::access::Access;
 use rules::mutex::Acquired;
 use rules::mutex::Lock;
 use rules::mutex::Released;
@@ -86,4 +87,12 @@ pub fn release_lock(
         },
         threads: others(threads, Change::Wake, active, object),
     }
+}
+
+pub fn set_last_access(access: Access, state: State) -> State
+    ensures { λ r. ⌜ r ≡ withAccess state access ⌝ }
+{
+    let mut next = state;
+    next.last_access = access;
+    next
 }

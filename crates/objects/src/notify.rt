@@ -1,6 +1,6 @@
 // loom's rt/notify.rs.
 ghost use mathlib.Core.Path.{_≡_};
-ghost use Rattle.rules.specs.Notify.{new, mightSpur, spur, notify, wait};
+ghost use Rattle.rules.specs.Notify.{new, withAccess, mightSpur, spur, notify, wait};
 use crate::access;
 use crate::thread::others;
 use crate::thread::sync_load;
@@ -8,6 +8,7 @@ use crate::thread::sync_store;
 use clocks::Clock;
 use clocks::THREADS;
 use clocks::ThreadId;
+use rules::access::Access;
 use rules::notify::Notified;
 use rules::notify::State;
 use rules::notify::Waited;
@@ -83,4 +84,12 @@ pub fn wait(state: State, threads: [Thread; THREADS], active: ThreadId) -> Waite
         state: s,
         threads: loaded,
     }
+}
+
+pub fn set_last_access(access: Access, state: State) -> State
+    ensures { λ r. ⌜ r ≡ withAccess state access ⌝ }
+{
+    let mut next = state;
+    next.last_access = access;
+    next
 }

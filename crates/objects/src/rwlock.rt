@@ -1,6 +1,6 @@
 // loom's rt/rwlock.rs. The readers are a set: a mask with a bit for each thread.
 ghost use mathlib.Core.Path.{_≡_};
-ghost use Rattle.rules.specs.RwLock.{new, readerBit, isReader, withReader, withoutReader, isWriteLocked, isReadLocked, reading, writing, notTaken, postAcquireReadLock, postAcquireWriteLock, freed, leaving, notReleased, releaseReadLock, releaseWriteLock};
+ghost use Rattle.rules.specs.RwLock.{new, withAccess, readerBit, isReader, withReader, withoutReader, isWriteLocked, isReadLocked, reading, writing, notTaken, postAcquireReadLock, postAcquireWriteLock, freed, leaving, notReleased, releaseReadLock, releaseWriteLock};
 use crate::access;
 use crate::thread::others;
 use crate::thread::sync_load;
@@ -8,6 +8,7 @@ use crate::thread::sync_store;
 use clocks::Clock;
 use clocks::THREADS;
 use clocks::ThreadId;
+use rules::access::Access;
 use rules::object::ObjectId;
 use rules::rwlock::Acquired;
 use rules::rwlock::Locked;
@@ -260,4 +261,12 @@ pub fn release_write_lock(
     ensures { λ r. ⌜ r ≡ releaseWriteLock active object state threads ⌝ }
 {
     freed(state, threads, active, object)
+}
+
+pub fn set_last_access(access: Access, state: State) -> State
+    ensures { λ r. ⌜ r ≡ withAccess state access ⌝ }
+{
+    let mut next = state;
+    next.last_access = access;
+    next
 }

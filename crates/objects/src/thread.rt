@@ -132,9 +132,8 @@ pub fn has_unpark(s: State) -> bool
     ensures { λ r. ⌜ r ≡ hasUnpark s ⌝ }
 {
     match s {
-        // The one state that has it.
-        State::Unparked => true,
-        State::Runnable => false,
+        State::Unparked => true, // The one state that has it.
+        State::Runnable => false, // It stores none until it is unparked.
         State::Blocked => false,
         State::Ended => false,
     }
@@ -271,16 +270,20 @@ pub(crate) fn sync_store(threads: [Thread; THREADS], active: ThreadId, clock: Cl
 
 // Load (Acquire): the object's clock is joined into the active thread's.
 pub(crate) fn sync_load(
-    threads: [Thread; THREADS],
+    mut threads: [Thread; THREADS],
     active: ThreadId,
     clock: Clock,
 ) -> [Thread; THREADS]
     ensures { λ r. ⌜ r ≡ loaded active clock threads ⌝ }
 {
-    let mut t = get(threads, active);
-    let own = t.clock;
-    t.clock = own.join(clock);
-    put(threads, active, t)
+    let i = active.0 as usize;
+    if i < THREADS {
+        let mut x = threads[i];
+        let own = x.clock;
+        x.clock = own.join(clock);
+        threads[i] = x;
+    }
+    threads
 }
 
 // The active thread's own count rises by one.
