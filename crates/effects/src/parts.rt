@@ -80,12 +80,14 @@ fn yes_no(b: bool) -> u16
 }
 
 // The active thread's last answer.
-fn answered(active: ThreadId, n: u16, threads: [Thread; THREADS]) -> [Thread; THREADS]
+fn answered(active: ThreadId, n: u16, mut threads: [Thread; THREADS]) -> [Thread; THREADS]
     ensures { λ r. ⌜ r ≡ answered active n threads ⌝ }
 {
-    let mut t = get(threads, active);
-    t.last_answer = n;
-    put(threads, active, t)
+    let i = active.0 as usize;
+    if i < THREADS {
+        threads[i].last_answer = n;
+    }
+    threads
 }
 
 fn mutex_taken(r: mutex::Acquired) -> MutexDone
