@@ -194,13 +194,12 @@ fn body_byte(bytes: &[u8], from: usize, n: usize, i: usize) -> u8
     0
 }
 
-// The record that begins at `at`; past the end there is none.
-fn read_record(bytes: &[u8], at: usize) -> Record
-    requires { ⌜ at < length (now bytes) ⌝ }
+// The record that begins at `at`, whose body has n bytes; past the end there is none.
+fn read_record(bytes: &[u8], at: usize, n: usize) -> Record
+    requires { ⌜ (at < length (now bytes)) × (n ≡ bodyLength (getD (now bytes) at 0)) ⌝ }
     ensures { λ r. ⌜ r ≡ recordOf (getD (now (bytes .entry)) at 0) (drop (at + 1) (now (bytes .entry))) ⌝ }
 {
     let k = bytes[at];
-    let n = body_length(k);
     let from = at + 1;
     if n <= bytes.len() - from {
         let first = body_byte(bytes, from, n, 0);
@@ -316,8 +315,9 @@ pub fn read_table(bytes: &[u8]) -> TableRead
     let mut table = empty_table();
     let mut at = 0;
     while at < bytes.len() {
-        let one = read_record(bytes, at);
-        let next = at + 1 + body_length(bytes[at]);
+        let n = body_length(bytes[at]);
+        let one = read_record(bytes, at, n);
+        let next = at + 1 + n;
         match one {
             Record::Object(m) => {
                 if table.thread_count != 0 {
@@ -344,16 +344,16 @@ pub fn read_table(bytes: &[u8]) -> TableRead
                 }
                 let objects = table.objects;
                 let thread = (table.thread_count - 1) as usize;
-                let n = table.counts[thread];
-                if 32 <= n {
+                let count = table.counts[thread];
+                if 32 <= count {
                     return refused(Answer::TooMany(at));
                 }
                 if !objects_fine(objects, op) {
                     return refused(Answer::BadObject(at));
                 }
-                let i = 32 * thread + n as usize;
+                let i = 32 * thread + count as usize;
                 table.ops[i] = op;
-                table.counts[thread] = n + 1;
+                table.counts[thread] = count + 1;
                 at = next;
             }
             Record::Bad => {

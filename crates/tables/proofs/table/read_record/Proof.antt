@@ -15,9 +15,6 @@ use Rattle.tables.proofs.table.read_record.Tie as tie
 shared-slice-read-k : tie.Need-shared-slice-read-k
 shared-slice-read-k c = search needs
 
-body-length-requires : tie.Need-body-length-requires
-body-length-requires c κs = search needs
-
 add-from : tie.Need-add-from
 add-from c = search needs
 
@@ -36,24 +33,24 @@ whole-record-requires c κs = search needs
 returns : tie.Need-returns
 unfolding recordOf
 returns c =
-    let b = c .before .before .before .before in
-    let a = b .before .before .before .args in
+    let a = c .before .before .before .before .before .before .args in
     let rest : List ℕ = drop (a .at + 1) (a .bytes .now) in
     let k : ℕ = getD (a .bytes .now) (a .at) 0 in
-    let whole : leb (bodyLength k) (length rest) ≡ true = le-leb (bodyLength k) (length rest) (omega (arith, length-drop (a .at + 1) (a .bytes .now), c .before .before .before .if1 .taken, b .body-length .ensures)) in
+    let long : a .n ≡ bodyLength k = c .before .before .before .before .before .before .pre .1 in
+    let whole : leb (bodyLength k) (length rest) ≡ true = le-leb (bodyLength k) (length rest) (omega (arith, length-drop (a .at + 1) (a .bytes .now), c .before .before .before .if1 .taken, long)) in
     c .whole-record .ensures
     ∙ (λ i. wholeRecord k (c .before .before .body-byte .ensures i) (c .before .body-byte2 .ensures i))
-    ∙ ap (λ (n : ℕ). wholeRecord k (bodyByte n rest 0) (bodyByte n rest 1)) (b .body-length .ensures)
+    ∙ ap (λ (n : ℕ). wholeRecord k (bodyByte n rest 0) (bodyByte n rest 1)) long
     ∙ rw (recordOf, whole)
 
 returns-2 : tie.Need-returns-2
 unfolding recordOf
 returns-2 c =
-    let b = c .before in
-    let a = b .before .before .before .args in
+    let a = c .before .before .before .args in
     let rest : List ℕ = drop (a .at + 1) (a .bytes .now) in
     let k : ℕ = getD (a .bytes .now) (a .at) 0 in
-    let cut : leb (bodyLength k) (length rest) ≡ false = lt-leb (bodyLength k) (length rest) (omega (arith, length-drop (a .at + 1) (a .bytes .now), c .if1 .left, b .body-length .ensures)) in
+    let long : a .n ≡ bodyLength k = c .before .before .before .pre .1 in
+    let cut : leb (bodyLength k) (length rest) ≡ false = lt-leb (bodyLength k) (length rest) (omega (arith, length-drop (a .at + 1) (a .bytes .now), c .if1 .left, long)) in
     rw (recordOf, cut)
 
 pub read-record-spec : {M : Type 1} → statement M
@@ -61,7 +58,6 @@ read-record-spec =
     tie.close
     (tie.spec
     shared-slice-read-k
-    body-length-requires
     add-from
     sub-if1
     body-byte-requires

@@ -36,22 +36,22 @@ unfolding emptyTable
 loop-holds c =
     rw (c .empty-table .ensures) (reading-start _, search needs)
 
-read-record-requires : tie.Need-read-record-requires Inv-loop μ-loop
-read-record-requires c κs = search needs
-
-add-next : tie.Need-add-next Inv-loop μ-loop
-add-next c = search needs
-
 shared-slice-read-body-length : tie.Need-shared-slice-read-body-length Inv-loop μ-loop
 shared-slice-read-body-length c = search needs
 
 body-length-requires : tie.Need-body-length-requires Inv-loop μ-loop
 body-length-requires c κs = search needs
 
+read-record-requires : tie.Need-read-record-requires Inv-loop μ-loop
+read-record-requires c κs = (search needs, c .body-length .ensures)
+
+add-next : tie.Need-add-next Inv-loop μ-loop
+add-next c = search needs
+
 add-next-2 : tie.Need-add-next-2 Inv-loop μ-loop
 add-next-2 c =
     let l = c .before .before .before .before in
-    omega (arith, c .body-length .ensures, body-small (getD (c .before .before .before .before .before .before .before .args .bytes .now) (l .loop .at) 0), c .before .before .before .before .before .before .before .good, c .before .before .before .loop-test .taken)
+    omega (arith, c .before .body-length .ensures, body-small (getD (c .before .before .before .before .before .before .before .args .bytes .now) (l .loop .at) 0), c .before .before .before .before .before .before .before .good, c .before .before .before .loop-test .taken)
 
 enum-known-one : tie.Need-enum-known-one Inv-loop μ-loop
 enum-known-one c = search needs
@@ -66,7 +66,7 @@ returns c =
     let bs : List ℕ = c .before .before .before .before .before .before .before .before .before .before .before .before .args .bytes .now in
     let at = l .loop .at in
     let t = l .loop .table in
-    let read = c .before .before .before .before .before .before .before .read-record .ensures in
+    let read = c .before .before .before .before .before .read-record .ensures in
     c .refused .ensures ∙ stops bs at t (l .loop .inv .0) (c .before .before .before .before .before .before .before .before .loop-test .taken) _ read _ (ap (λ (x : Record). oneRecord at t x accepted) (c .before .before .before .one .given .1) ∙ rw (objectRecord, ne-eqb _ _ (c .before .if1 .taken)))
 
 refused-requires-2 : tie.Need-refused-requires-2 Inv-loop μ-loop
@@ -79,7 +79,7 @@ returns-2 c =
     let bs : List ℕ = c .before .before .before .before .before .before .before .before .before .before .before .before .before .args .bytes .now in
     let at = l .loop .at in
     let t = l .loop .table in
-    let read = c .before .before .before .before .before .before .before .before .read-record .ensures in
+    let read = c .before .before .before .before .before .before .read-record .ensures in
     c .refused2 .ensures ∙ stops bs at t (l .loop .inv .0) (c .before .before .before .before .before .before .before .before .before .loop-test .taken) _ read _ (ap (λ (x : Record). oneRecord at t x accepted) (c .before .before .before .before .one .given .1) ∙ rw (objectRecord, eq-eqb _ _ (c .before .before .if1 .left), le-ltb _ _ (c .before .if2 .taken)))
 
 cast-i : tie.Need-cast-i Inv-loop μ-loop
@@ -105,9 +105,9 @@ loop-again c =
     let bs : List ℕ = c .before .before .before .before .before .before .before .before .before .before .before .before .args .bytes .now in
     let at = l .loop .at in
     let t = l .loop .table in
-    let read = c .before .before .before .before .before .before .before .read-record .ensures in
+    let read = c .before .before .before .before .before .read-record .ensures in
     let u : Table = withObject t (c .before .before .before .one .given .0 .0) in
-    let same : at + 1 + c .before .before .before .before .before .body-length .result ≡ at + 1 + bodyLength (getD bs at 0) = omega (arith, c .before .before .before .before .before .body-length .ensures) in
+    let same : at + 1 + c .before .before .before .before .before .before .body-length .result ≡ at + 1 + bodyLength (getD bs at 0) = omega (arith, c .before .before .before .before .before .before .body-length .ensures) in
     let next : Reading bs (at + 1 + bodyLength (getD bs at 0)) u = goes bs at t (l .loop .inv .0) (c .before .before .before .before .before .before .before .before .loop-test .taken) _ read u (ap (λ (x : Record). oneRecord at t x accepted) (c .before .before .before .one .given .1) ∙ rw (objectRecord, eq-eqb _ _ (c .before .if1 .left), lt-ltb _ _ (c .if2 .left))) in
     (rw same next, l .loop .inv .1)
 
@@ -124,7 +124,7 @@ returns-3 c =
     let bs : List ℕ = c .before .before .before .before .before .before .before .before .before .before .before .args .bytes .now in
     let at = l .loop .at in
     let t = l .loop .table in
-    let read = c .before .before .before .before .before .before .read-record .ensures in
+    let read = c .before .before .before .before .read-record .ensures in
     c .refused3 .ensures ∙ stops bs at t (l .loop .inv .0) (c .before .before .before .before .before .before .before .loop-test .taken) _ read _ (ap (λ (x : Record). oneRecord at t x accepted) (c .before .before .enum-told .given .1) ∙ rw (threadRecord, le-ltb _ _ (c .before .if3 .taken)))
 
 add-table-2 : tie.Need-add-table-2 Inv-loop μ-loop
@@ -141,9 +141,9 @@ loop-again-2 c =
     let bs : List ℕ = c .before .before .before .before .before .before .before .before .before .before .args .bytes .now in
     let at = l .loop .at in
     let t = l .loop .table in
-    let read = c .before .before .before .before .before .read-record .ensures in
+    let read = c .before .before .before .read-record .ensures in
     let u : Table = withThread t in
-    let same : at + 1 + c .before .before .before .body-length .result ≡ at + 1 + bodyLength (getD bs at 0) = omega (arith, c .before .before .before .body-length .ensures) in
+    let same : at + 1 + c .before .before .before .before .body-length .result ≡ at + 1 + bodyLength (getD bs at 0) = omega (arith, c .before .before .before .before .body-length .ensures) in
     let next : Reading bs (at + 1 + bodyLength (getD bs at 0)) u = goes bs at t (l .loop .inv .0) (c .before .before .before .before .before .before .loop-test .taken) _ read u (ap (λ (x : Record). oneRecord at t x accepted) (c .before .enum-told .given .1) ∙ rw (threadRecord, lt-ltb _ _ (c .if3 .left))) in
     (rw same next, omega (arith, c .if3 .left))
 
@@ -160,7 +160,7 @@ returns-4 c =
     let bs : List ℕ = c .before .before .before .before .before .before .before .before .before .before .before .before .args .bytes .now in
     let at = l .loop .at in
     let t = l .loop .table in
-    let read = c .before .before .before .before .before .before .before .read-record .ensures in
+    let read = c .before .before .before .before .before .read-record .ensures in
     c .refused4 .ensures ∙ stops bs at t (l .loop .inv .0) (c .before .before .before .before .before .before .before .before .loop-test .taken) _ read _ (ap (λ (x : Record). oneRecord at t x accepted) (c .before .before .before .one2 .given .1) ∙ rw (operationRecord, eq-eqb _ _ (c .before .if4 .taken)))
 
 sub-thread : tie.Need-sub-thread Inv-loop μ-loop
@@ -169,8 +169,8 @@ sub-thread c = search needs
 cast-thread : tie.Need-cast-thread Inv-loop μ-loop
 cast-thread c = search needs
 
-element-copy-out-n : tie.Need-element-copy-out-n Inv-loop μ-loop
-element-copy-out-n c = search needs
+element-copy-out-count : tie.Need-element-copy-out-count Inv-loop μ-loop
+element-copy-out-count c = search needs
 
 refused-requires-5 : tie.Need-refused-requires-5 Inv-loop μ-loop
 refused-requires-5 c κs = search needs
@@ -182,7 +182,7 @@ returns-5 c =
     let bs : List ℕ = c .before .before .before .before .before .before .before .before .before .before .before .before .before .before .before .args .bytes .now in
     let at = l .loop .at in
     let t = l .loop .table in
-    let read = c .before .before .before .before .before .before .before .before .before .before .read-record .ensures in
+    let read = c .before .before .before .before .before .before .before .before .read-record .ensures in
     c .refused5 .ensures ∙ stops bs at t (l .loop .inv .0) (c .before .before .before .before .before .before .before .before .before .before .before .loop-test .taken) _ read _ (ap (λ (x : Record). oneRecord at t x accepted) (c .before .before .before .before .before .before .one2 .given .1) ∙ rw (operationRecord, ne-eqb _ _ (c .before .before .before .before .if4 .left), le-ltb _ _ (c .before .if5 .taken)))
 
 objects-fine-requires : tie.Need-objects-fine-requires Inv-loop μ-loop
@@ -198,7 +198,7 @@ returns-6 c =
     let bs : List ℕ = c .before .before .before .before .before .before .before .before .before .before .before .before .before .before .before .before .before .args .bytes .now in
     let at = l .loop .at in
     let t = l .loop .table in
-    let read = c .before .before .before .before .before .before .before .before .before .before .before .before .read-record .ensures in
+    let read = c .before .before .before .before .before .before .before .before .before .before .read-record .ensures in
     c .refused6 .ensures ∙ stops bs at t (l .loop .inv .0) (c .before .before .before .before .before .before .before .before .before .before .before .before .before .loop-test .taken) _ read _ (ap (λ (x : Record). oneRecord at t x accepted) (c .before .before .before .before .before .before .before .before .one2 .given .1) ∙ rw (operationRecord, ne-eqb _ _ (c .before .before .before .before .before .before .if4 .left), lt-ltb _ _ (c .before .before .before .if5 .left), sym (c .before .before .objects-fine .ensures) ∙ not-true _ (c .before .if6 .taken)))
 
 mul-i : tie.Need-mul-i Inv-loop μ-loop
@@ -233,9 +233,9 @@ loop-again-3 c =
     let bs : List ℕ = c .before .before .before .before .before .before .before .before .before .before .before .before .before .before .before .before .args .bytes .now in
     let at = l .loop .at in
     let t = l .loop .table in
-    let read = c .before .before .before .before .before .before .before .before .before .before .before .read-record .ensures in
+    let read = c .before .before .before .before .before .before .before .before .before .read-record .ensures in
     let u : Table = withOp t (c .before .before .before .before .before .before .before .one2 .given .0 .0) in
-    let same : at + 1 + c .before .before .before .before .before .before .before .before .before .body-length .result ≡ at + 1 + bodyLength (getD bs at 0) = omega (arith, c .before .before .before .before .before .before .before .before .before .body-length .ensures) in
+    let same : at + 1 + c .before .before .before .before .before .before .before .before .before .before .body-length .result ≡ at + 1 + bodyLength (getD bs at 0) = omega (arith, c .before .before .before .before .before .before .before .before .before .before .body-length .ensures) in
     let next : Reading bs (at + 1 + bodyLength (getD bs at 0)) u = goes bs at t (l .loop .inv .0) (c .before .before .before .before .before .before .before .before .before .before .before .before .loop-test .taken) _ read u (ap (λ (x : Record). oneRecord at t x accepted) (c .before .before .before .before .before .before .before .one2 .given .1) ∙ rw (operationRecord, ne-eqb _ _ (c .before .before .before .before .before .if4 .left), lt-ltb _ _ (c .before .before .if5 .left), sym (c .before .objects-fine .ensures) ∙ not-false _ (c .if6 .left))) in
     (rw same next, l .loop .inv .1)
 
@@ -252,7 +252,7 @@ returns-7 c =
     let bs : List ℕ = c .before .before .before .before .before .before .before .before .before .before .args .bytes .now in
     let at = l .loop .at in
     let t = l .loop .table in
-    let read = c .before .before .before .before .before .read-record .ensures in
+    let read = c .before .before .before .read-record .ensures in
     c .refused7 .ensures ∙ stops bs at t (l .loop .inv .0) (c .before .before .before .before .before .before .loop-test .taken) _ read _ (ap (λ (x : Record). oneRecord at t x accepted) (c .before .enum-told2 .given .1))
 
 at-end-requires : tie.Need-at-end-requires Inv-loop μ-loop
@@ -274,10 +274,10 @@ read-table-spec =
     μ-loop
     empty-table-requires
     loop-holds
-    read-record-requires
-    add-next
     shared-slice-read-body-length
     body-length-requires
+    read-record-requires
+    add-next
     add-next-2
     enum-known-one
     refused-requires
@@ -301,7 +301,7 @@ read-table-spec =
     returns-4
     sub-thread
     cast-thread
-    element-copy-out-n
+    element-copy-out-count
     refused-requires-5
     returns-5
     objects-fine-requires
