@@ -4,7 +4,7 @@ use mathlib.Core.Bool.{Bool, true, false}
 use mathlib.Core.List.{List}
 use Prim.Native.Nat.{ℕ, _+_, _-_, _*_}
 use lib.Dec.{ltb}
-use lib.ListN.{length, getD, drop}
+use lib.ListN.{length, getD, drop, replicate}
 use lib.Seq.{sets}
 use Rattle.clocks.specs.Clock.{risen}
 use Rattle.lists.specs.Rules.{Outcome}
@@ -15,16 +15,18 @@ use Rattle.rules.specs.declared.object.Entry.{Entry}
 use Rattle.rules.specs.declared.thread.Thread.{Thread}
 use Rattle.rules.specs.declared.table.Op.{Op}
 use Rattle.rules.specs.declared.table.Table.{Table}
+use Rattle.rules.specs.declared.answer.Answer.{Answer}
 use Rattle.rules.specs.declared.answer.Answer.the-variants.{Deadlock, More, NotAllowed, Surplus}
 use Rattle.rules.specs.declared.world.Asked.{Asked}
+use Rattle.rules.specs.declared.world.Asked.the-variants as asked
 use Rattle.rules.specs.declared.world.World.{World}
 use Rattle.rules.specs.declared.world.Decided.{Decided}
-use Rattle.rules.specs.Ground.{flag}
+use Rattle.rules.specs.Ground.{flag, absent}
 use Rattle.rules.specs.Announce.{actionOf}
-use Rattle.rules.specs.Object.{putEntry}
+use Rattle.rules.specs.Object.{newEntry, noObject, putEntry}
 use Rattle.rules.specs.Table.{noOp, opsOf}
 use Rattle.rules.specs.Turn.{threadIn, entryIn, wants, done, afterTurn, allEnded, anyRunnable, leakCheck, stuck, settled, wait, goOn, turnOf, question, opsLeft}
-use Rattle.rules.specs.Judge.{Verdict, outcomeOf, step, Given, untouched}
+use Rattle.rules.specs.Judge.{Verdict, outcomeOf, step, Given}
 use Rattle.rules.specs.Sheet.{sheetOf}
 use Rattle.turns.specs.declared.step.Move.{Move}
 use Rattle.turns.specs.declared.step.Move.the-variants.{Begins, Answers, Goes, Waits}
@@ -127,16 +129,29 @@ weight Over = 2
 weight AllEnded = 1
 weight (Done a) = 0
 
--- a judgement as the code hands it back; a refusal comes with the world that was given
-unfoldable pub ranOf : World → Judged World Verdict → Ran
-ranOf w (notAllowed i) = record { end = end.NotAllowed i; world = w }
-ranOf w (surplus i) = record { end = end.Surplus i; world = w }
-ranOf w (unfinished v) = record { end = end.Unfinished; world = v }
-ranOf w (verdict v) = record { end = end.Verdict (v .answer); world = v .world }
+-- a world in which nothing is
+unfoldable pub nowhere : World
+nowhere = record { threads = replicate 6 absent; objects = replicate 16 (newEntry noObject); turn = 0; asked = asked.Nobody }
 
--- what a run shows: the sheet of the world it hands back, unless it was refused
+-- a judgement as the code hands it back; a refusal comes with no world
+unfoldable pub ranOf : Judged World Verdict → Ran
+ranOf (notAllowed i) = record { end = end.NotAllowed i; world = nowhere }
+ranOf (surplus i) = record { end = end.Surplus i; world = nowhere }
+ranOf (unfinished v) = record { end = end.Unfinished; world = v }
+ranOf (verdict v) = record { end = end.Verdict (v .answer); world = v .world }
+
+-- what a run shows: its answer, and the sheet of the world it hands back, unless it was refused
+abbrev pub isShown : End → Bool
+isShown (end.NotAllowed i) = false
+isShown (end.Surplus i) = false
+isShown end.Unfinished = true
+isShown (end.Verdict a) = true
+
+abbrev pub answerOf : End → Answer
+answerOf (end.NotAllowed i) = NotAllowed i
+answerOf (end.Surplus i) = Surplus i
+answerOf end.Unfinished = More
+answerOf (end.Verdict a) = a
+
 unfoldable pub showing : Table → End → World → List ℕ → Given
-showing table (end.NotAllowed i) w buffer = untouched (NotAllowed i) buffer
-showing table (end.Surplus i) w buffer = untouched (Surplus i) buffer
-showing table end.Unfinished w buffer = record { answer = More; buffer = sets buffer 0 (sheetOf table w) }
-showing table (end.Verdict a) w buffer = record { answer = a; buffer = sets buffer 0 (sheetOf table w) }
+showing table e w buffer = record { answer = answerOf e; buffer = elim (isShown e) [ true ↦ sets buffer 0 (sheetOf table w) | false ↦ buffer ] }

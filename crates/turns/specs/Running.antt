@@ -26,7 +26,7 @@ use Rattle.turns.specs.declared.step.Scene.{Scene}
 use Rattle.turns.specs.declared.step.Moved.{Moved}
 use Rattle.turns.specs.declared.run.End.the-variants as end
 use Rattle.turns.specs.Step.{subject, act, placeOf, isAllowed, chosen}
-use Rattle.turns.specs.Run.{leftOf, opOf, after, decided, rest, Running, weight, ranOf}
+use Rattle.turns.specs.Run.{leftOf, opOf, after, decided, rest, Running, weight, nowhere, ranOf}
 use Rattle.turns.specs.RunLaws.{rest-end, rest-refused, rest-chosen, rest-over, rest-all-ended, rest-verdict, rest-surplus, rest-act, act-lighter, after-light, chosen-weight}
 
 -- what the loop finds of a move: its operation, if one is left, and the object that it is about
@@ -51,22 +51,22 @@ module _ {table : Table} {list : List ℕ} {given : World} where
     now-left : (a : Acting) → acting ≡ a → judge (step table) 0 given list ≡ rest table list at a w
     now-left a e = r .judged ∙ ap (λ (x : Acting). rest table list at x w) e
 
-    pub ran-out : acting ≡ Nobody → length list ≤ at → record { end = end.Unfinished; world = w } ≡ ranOf given (judge (step table) 0 given list)
+    pub ran-out : acting ≡ Nobody → length list ≤ at → record { end = end.Unfinished; world = w } ≡ ranOf (judge (step table) 0 given list)
     unfolding ranOf
-    ran-out e h = sym (ap (ranOf given) (now-left Nobody e ∙ rest-end table list at w h))
+    ran-out e h = sym (ap ranOf (now-left Nobody e ∙ rest-end table list at w h))
 
     pub not-allowed : acting ≡ Nobody → at < length list → isAllowed who ts (getD list at 0) ≡ false
-        → record { end = end.NotAllowed at; world = given } ≡ ranOf given (judge (step table) 0 given list)
+        → record { end = end.NotAllowed at; world = nowhere } ≡ ranOf (judge (step table) 0 given list)
     unfolding ranOf
-    not-allowed e h f = sym (ap (ranOf given) (now-left Nobody e ∙ rest-refused table list at w h f))
+    not-allowed e h f = sym (ap ranOf (now-left Nobody e ∙ rest-refused table list at w h f))
 
-    pub surplus-left : (a : Answer) → acting ≡ Done a → at < length list → record { end = end.Surplus at; world = given } ≡ ranOf given (judge (step table) 0 given list)
+    pub surplus-left : (a : Answer) → acting ≡ Done a → at < length list → record { end = end.Surplus at; world = nowhere } ≡ ranOf (judge (step table) 0 given list)
     unfolding ranOf
-    surplus-left a e h = sym (ap (ranOf given) (now-left (Done a) e ∙ rest-surplus table list at w a h))
+    surplus-left a e h = sym (ap ranOf (now-left (Done a) e ∙ rest-surplus table list at w a h))
 
-    pub verdict-reached : (a : Answer) → acting ≡ Done a → length list ≤ at → record { end = end.Verdict a; world = w } ≡ ranOf given (judge (step table) 0 given list)
+    pub verdict-reached : (a : Answer) → acting ≡ Done a → length list ≤ at → record { end = end.Verdict a; world = w } ≡ ranOf (judge (step table) 0 given list)
     unfolding ranOf
-    verdict-reached a e h = sym (ap (ranOf given) (now-left (Done a) e ∙ rest-verdict table list at w a h))
+    verdict-reached a e h = sym (ap ranOf (now-left (Done a) e ∙ rest-verdict table list at w a h))
 
     pub decision : acting ≡ Nobody → at < length list → isAllowed who ts (getD list at 0) ≡ true → (m : Move) → m ≡ chosen who (getD list at 0)
         → Running table list given ts es n who (Moves m) (at + 1)

@@ -73,13 +73,13 @@ left-out ms k x z e l h f =
     sym (set-getD z k x) ∙ turned (madeAt ms) k (replicate 16 x) x z (getD z k x) within h (same ∙ e ∙ ap newEntry (not-made (m .kind) (m .spurious) f))
 
 -- where the buffer has room for the sheet, what a run shows is what its judgement shows
-pub shows : (table : Table) (w : World) (buffer : List ℕ) → sheetLength table ≤ length buffer
-    → (j : Judged World Verdict) → showing table (ranOf w j .end) (ranOf w j .world) buffer ≡ shown table j buffer
+pub shows : (table : Table) (buffer : List ℕ) → sheetLength table ≤ length buffer
+    → (j : Judged World Verdict) → showing table (ranOf j .end) (ranOf j .world) buffer ≡ shown table j buffer
 unfolding showing shown ranOf
-shows table w buffer h (notAllowed i) = refl
-shows table w buffer h (surplus i) = refl
-shows table w buffer h (unfinished v) = λ i. record { answer = More; buffer = sheet-over buffer table v h i }
-shows table w buffer h (verdict v) = λ i. record { answer = v .answer; buffer = sheet-over buffer table (v .world) h i }
+shows table buffer h (notAllowed i) = refl
+shows table buffer h (surplus i) = refl
+shows table buffer h (unfinished v) = λ i. record { answer = More; buffer = sheet-over buffer table v h i }
+shows table buffer h (verdict v) = λ i. record { answer = v .answer; buffer = sheet-over buffer table (v .world) h i }
 
 -- what the table's reader hands back is what was read
 module _ (bs : List ℕ) (read : TableRead) (e : read ≡ readOf (readTable bs)) where

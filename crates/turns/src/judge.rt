@@ -7,7 +7,7 @@ ghost use Rattle.rules.specs.Ground.{absent};
 ghost use Rattle.rules.specs.Object.{newEntry};
 ghost use Rattle.rules.specs.Turn.{startThread, start};
 ghost use Rattle.rules.specs.Judge.{judgeOf};
-ghost use Rattle.turns.specs.Run.{showing};
+ghost use Rattle.turns.specs.Run.{isShown, answerOf, showing};
 ghost use Rattle.turns.specs.Start.{isMade};
 use crate::run::End;
 use crate::run::run;
@@ -97,22 +97,36 @@ pub fn start(table: Table) -> World
     }
 }
 
-// What a run comes to: its answer, and the sheet unless it was refused.
-fn show(table: Table, end: End, world: World, sheet: &mut [u8]) -> Answer
-    ensures { λ r. ⌜ record { answer = r; buffer = now (sheet .exit) } ≡ showing table end world (now (sheet .entry)) ⌝ }
+fn is_shown(end: End) -> bool
+    ensures { λ r. ⌜ r ≡ isShown end ⌝ }
+{
+    match end {
+        End::NotAllowed(_) => false,
+        End::Surplus(_) => false,
+        End::Unfinished => true,
+        End::Verdict(_) => true,
+    }
+}
+
+fn answer_of(end: End) -> Answer
+    ensures { λ r. ⌜ r ≡ answerOf end ⌝ }
 {
     match end {
         End::NotAllowed(i) => Answer::NotAllowed(i),
         End::Surplus(i) => Answer::Surplus(i),
-        End::Unfinished => {
-            write_sheet(table, world, sheet);
-            Answer::More
-        }
-        End::Verdict(a) => {
-            write_sheet(table, world, sheet);
-            a
-        }
+        End::Unfinished => Answer::More,
+        End::Verdict(a) => a,
     }
+}
+
+// What a run comes to: its answer, and the sheet unless it was refused.
+fn show(table: Table, end: End, world: World, sheet: &mut [u8]) -> Answer
+    ensures { λ r. ⌜ record { answer = r; buffer = now (sheet .exit) } ≡ showing table end world (now (sheet .entry)) ⌝ }
+{
+    if is_shown(end) {
+        write_sheet(table, world, sheet);
+    }
+    answer_of(end)
 }
 
 pub fn judge(table: &[u8], list: &[u8], sheet: &mut [u8]) -> Answer

@@ -2,10 +2,6 @@
 // to the object and to the threads is in `run`, where they stand.
 ghost use mathlib.Core.Path.{_≡_};
 ghost use Rattle.rules.specs.Ground.{withPosition};
-ghost use Rattle.rules.specs.Mutex.{withAccess as mutexAccessed};
-ghost use Rattle.rules.specs.RwLock.{withAccess as rwlockAccessed};
-ghost use Rattle.rules.specs.Condvar.{withAccess as condvarAccessed};
-ghost use Rattle.rules.specs.Notify.{withAccess as notifyAccessed};
 ghost use Rattle.turns.specs.Loud.{again, opIn, deedOf, deedIn, turnIn, askedIn, isWait, afterwards, parked, versionIn, stands, notedBy, notedAs, notedIn, isFine, failedAs, nextOf, comesTo, followsThen};
 use crate::quiet::who;
 use crate::step::Acting;
@@ -20,7 +16,6 @@ use objects::thread::has_unpark;
 use objects::thread::set_blocked;
 use objects::thread::set_runnable;
 use objects::thread::with_phase;
-use rules::access::Access;
 use rules::answer::Answer;
 use rules::answer::Spot;
 use rules::arc;
@@ -319,37 +314,4 @@ pub fn follows(m: Move, call: Call, position: u8) -> Acting
         Move::Goes(t, p) => Acting::Moves(Move::Goes(t, one_more(p))),
         Move::Waits(_, _) => Acting::Over,
     }
-}
-
-// The states with an access recorded (loom's set_last_access); an Arc and a channel go by the action and have their own.
-pub fn mutex_accessed(s: mutex::State, x: Access) -> mutex::State
-    ensures { λ r. ⌜ r ≡ mutexAccessed s x ⌝ }
-{
-    let mut q = s;
-    q.last_access = x;
-    q
-}
-
-pub fn rwlock_accessed(s: rwlock::State, x: Access) -> rwlock::State
-    ensures { λ r. ⌜ r ≡ rwlockAccessed s x ⌝ }
-{
-    let mut q = s;
-    q.last_access = x;
-    q
-}
-
-pub fn condvar_accessed(s: condvar::State, x: Access) -> condvar::State
-    ensures { λ r. ⌜ r ≡ condvarAccessed s x ⌝ }
-{
-    let mut q = s;
-    q.last_access = x;
-    q
-}
-
-pub fn notify_accessed(s: notify::State, x: Access) -> notify::State
-    ensures { λ r. ⌜ r ≡ notifyAccessed s x ⌝ }
-{
-    let mut q = s;
-    q.last_access = x;
-    q
 }

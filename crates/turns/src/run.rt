@@ -3,7 +3,7 @@ ghost use mathlib.Core.Path.{_≡_};
 ghost use Rattle.lists.specs.Judge.{judge};
 ghost use Rattle.rules.specs.Judge.{step};
 ghost use Rattle.turns.specs.Quiet.{placeIn, allowedIn};
-ghost use Rattle.turns.specs.Run.{after, ranOf};
+ghost use Rattle.turns.specs.Run.{after, nowhere, ranOf};
 ghost use Rattle.turns.specs.Step.{placeAt, chosen};
 use crate::after::all_ended;
 use crate::after::any_runnable;
@@ -13,15 +13,11 @@ use crate::loud::Deed;
 use crate::loud::Noted;
 use crate::loud::asked_in;
 use crate::loud::comes_to;
-use crate::loud::condvar_accessed;
 use crate::loud::deed_in;
 use crate::loud::follows;
 use crate::loud::is_fine;
-use crate::loud::mutex_accessed;
 use crate::loud::noted_in;
-use crate::loud::notify_accessed;
 use crate::loud::op_in;
-use crate::loud::rwlock_accessed;
 use crate::loud::stands;
 use crate::loud::turn_in;
 use crate::loud::version;
@@ -45,9 +41,12 @@ use effects::parts::mutex_effect;
 use effects::parts::notify_effect;
 use effects::parts::rwlock_effect;
 use objects::arc;
+use objects::condvar;
 use objects::mpsc;
+use objects::mutex;
 use objects::notify;
 use objects::object;
+use objects::rwlock;
 use objects::thread::absent;
 use objects::thread::is_runnable;
 use rules::access::Access;
@@ -69,7 +68,7 @@ pub enum End {
     Verdict(Answer),
 }
 
-// A refusal comes with the world that was given.
+// A refusal comes with no world, so that the one that was given need not be kept.
 pub struct Ran {
     pub end: End,
     pub world: World,
@@ -152,8 +151,31 @@ fn came_to(
     }
 }
 
+// A world in which nothing is.
+fn nowhere() -> World
+    ensures { λ r. ⌜ r ≡ nowhere ⌝ }
+{
+    let nobody = absent();
+    let nothing = object::absent();
+    World {
+        threads: [nobody; THREADS],
+        objects: [nothing; OBJECTS],
+        turn: 0,
+        asked: Asked::Nobody,
+    }
+}
+
+fn refused(end: End) -> Ran
+    ensures { λ r. ⌜ r ≡ record { end = end; world = nowhere } ⌝ }
+{
+    Ran {
+        end: end,
+        world: nowhere(),
+    }
+}
+
 pub fn run(table: Table, world: World, list: &[u8]) -> Ran
-    ensures { λ r. ⌜ r ≡ ranOf world (judge (step table) 0 world (now (list .entry))) ⌝ }
+    ensures { λ r. ⌜ r ≡ ranOf (judge (step table) 0 world (now (list .entry))) ⌝ }
 {
     let mut threads = world.threads;
     let mut objects = world.objects;
@@ -173,10 +195,7 @@ pub fn run(table: Table, world: World, list: &[u8]) -> Ran
                 let x = if i < THREADS { threads[i] } else { absent() };
                 let state = x.state;
                 if !is_allowed(asked, state, d) {
-                    return Ran {
-                        end: End::NotAllowed(at),
-                        world: world,
-                    };
+                    return refused(End::NotAllowed(at));
                 }
                 acting = Acting::Moves(m);
                 at += 1;
@@ -381,28 +400,28 @@ pub fn run(table: Table, world: World, list: &[u8]) -> Ran
                         Noted::Mutex => {
                             e = objects[o];
                             let s = e.mutex;
-                            let q = mutex_accessed(s, access);
+                            let q = mutex::set_last_access(access, s);
                             e.mutex = q;
                             objects[o] = e;
                         }
                         Noted::RwLock => {
                             e = objects[o];
                             let s = e.rwlock;
-                            let q = rwlock_accessed(s, access);
+                            let q = rwlock::set_last_access(access, s);
                             e.rwlock = q;
                             objects[o] = e;
                         }
                         Noted::Condvar => {
                             e = objects[o];
                             let s = e.condvar;
-                            let q = condvar_accessed(s, access);
+                            let q = condvar::set_last_access(access, s);
                             e.condvar = q;
                             objects[o] = e;
                         }
                         Noted::Notify => {
                             e = objects[o];
                             let s = e.notify;
-                            let q = notify_accessed(s, access);
+                            let q = notify::set_last_access(access, s);
                             e.notify = q;
                             objects[o] = e;
                         }
@@ -432,10 +451,7 @@ pub fn run(table: Table, world: World, list: &[u8]) -> Ran
             }
             Acting::Done(a) => {
                 if at < list.len() {
-                    return Ran {
-                        end: End::Surplus(at),
-                        world: world,
-                    };
+                    return refused(End::Surplus(at));
                 }
                 return came_to(End::Verdict(a), threads, objects, turn, asked);
             }

@@ -27,11 +27,11 @@ use Rattle.walk.specs.declared.walk.Progress.{Progress}
 use Rattle.walk.specs.Allowed.{allowed-is}
 use Rattle.walk.specs.Says.{stageAt, stageOf, isOver, Completed}
 
-pub decided-one : (table : Table) (w : World) (d : ℕ) → stageOf (ranOf w (judge (step table) 0 w (d ∷ []))) ≡ step table w d
+pub decided-one : (table : Table) (w : World) (d : ℕ) → stageOf (ranOf (judge (step table) 0 w (d ∷ []))) ≡ step table w d
 unfolding judge ranOf
 decided-one table w d = go (step table w d)
   where
-    go : (o : Outcome World Verdict) → stageOf (ranOf w (judgeAt o 0 [] (λ v. judge (step table) 1 v []))) ≡ o
+    go : (o : Outcome World Verdict) → stageOf (ranOf (judgeAt o 0 [] (λ v. judge (step table) 1 v []))) ≡ o
     go refused = refl
     go (done v) = refl
     go (wants v) = refl

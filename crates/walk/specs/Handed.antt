@@ -138,12 +138,12 @@ module _ (bs : List ℕ) (read : TableRead) (e : read ≡ readOf (readTable bs))
       givenBy end.Unfinished found = untouched NotComplete buffer
       givenBy (end.Verdict a) found = nextList found buffer
 
-      by-end : (w : World) (j : Judged World Verdict) (found : Option (List ℕ)) → givenBy (ranOf w j .end) found ≡ nextJudged j found buffer
+      by-end : (j : Judged World Verdict) (found : Option (List ℕ)) → givenBy (ranOf j .end) found ≡ nextJudged j found buffer
       unfolding nextJudged ranOf
-      by-end w (notAllowed i) found = refl
-      by-end w (surplus i) found = refl
-      by-end w (unfinished v) found = refl
-      by-end w (verdict v) found = refl
+      by-end (notAllowed i) found = refl
+      by-end (surplus i) found = refl
+      by-end (unfinished v) found = refl
+      by-end (verdict v) found = refl
 
       module _ (t : read .taken ≡ Accepted) (p : Passed) (says : PassSays (read .table) list p) where
         abbrev table : Table
@@ -153,7 +153,7 @@ module _ (bs : List ℕ) (read : TableRead) (e : read ≡ readOf (readTable bs))
         unfolding nextOf nextTable next.nextOf
         next-given x q =
             ap (λ (y : End). givenBy y (finish (step table) decisions (left table) list (pivotOf (p .mark)))) (sym q ∙ says .ends)
-            ∙ by-end (start table) (judge (step table) 0 (start table) list) (finish (step table) decisions (left table) list (pivotOf (p .mark)))
+            ∙ by-end (judge (step table) 0 (start table) list) (finish (step table) decisions (left table) list (pivotOf (p .mark)))
             ∙ ap (λ (z : Pivot World). nextJudged (judge (step table) 0 (start table) list) (finish (step table) decisions (left table) list z) buffer) (says .pivot)
             ∙ sym (ap (λ (r : Read). nextTable r list buffer) (was-accepted bs read e t))
 

@@ -66,7 +66,7 @@ module _ (table : Table) (begun : Started table) where
     pub passing-end : length l ≤ i → PassSays table l (record { end = end.Unfinished; mark = m })
     unfolding ranOf
     passing-end h = record {
-      ends = sym (ap (λ (j : Judged World Verdict). ranOf (start table) j .end) (p .judged ∙ judge-end (step table) w l i h));
+      ends = sym (ap (λ (j : Judged World Verdict). ranOf j .end) (p .judged ∙ judge-end (step table) w l i h));
       pivot = sym (p .pivot ∙ pass-end (step table) decisions (left table) w l i (pivotOf m) h);
       placed = p .placed;
     }
@@ -74,7 +74,7 @@ module _ (table : Table) (begun : Started table) where
     pub passing-refused : i < length l → step table w (getD l i 0) ≡ refused → PassSays table l (record { end = end.NotAllowed i; mark = m })
     unfolding ranOf
     passing-refused h e = record {
-      ends = sym (ap (λ (j : Judged World Verdict). ranOf (start table) j .end) (p .judged ∙ judge-refused (step table) w l i h e));
+      ends = sym (ap (λ (j : Judged World Verdict). ranOf j .end) (p .judged ∙ judge-refused (step table) w l i h e));
       pivot = sym (p .pivot ∙ pass-refused (step table) decisions (left table) w l i (pivotOf m) h e);
       placed = p .placed;
     }
@@ -93,7 +93,7 @@ module _ (table : Table) (begun : Started table) where
       pub passing-ends : (a : Answer) (v : World) → step table w (getD l i 0) ≡ stageAt (end.Verdict a) v → i + 1 ≡ length l → PassSays table l (record { end = end.Verdict a; mark = b })
       unfolding ranOf
       passing-ends a v e q = record {
-        ends = sym (ap (λ (j : Judged World Verdict). ranOf (start table) j .end) (p .judged ∙ judge-last (step table) w l i _ q e));
+        ends = sym (ap (λ (j : Judged World Verdict). ranOf j .end) (p .judged ∙ judge-last (step table) w l i _ q e));
         pivot = x .is table ∙ sym (p .pivot ∙ pass-done (step table) decisions (left table) w l i (pivotOf m) _ h e);
         placed = there;
       }
@@ -102,7 +102,7 @@ module _ (table : Table) (begun : Started table) where
           → PassSays table l (record { end = end.Surplus (i + 1); mark = b })
       unfolding ranOf
       passing-surplus a v e q = record {
-        ends = sym (ap (λ (j : Judged World Verdict). ranOf (start table) j .end) (p .judged ∙ judge-surplus (step table) w l i _ (omega arith) e));
+        ends = sym (ap (λ (j : Judged World Verdict). ranOf j .end) (p .judged ∙ judge-surplus (step table) w l i _ (omega arith) e));
         pivot = x .is table ∙ sym (p .pivot ∙ pass-done (step table) decisions (left table) w l i (pivotOf m) _ h e);
         placed = there;
       }

@@ -74,7 +74,7 @@ pub record Passing (table : Table) (l : List ℕ) (w : World) (m : Mark) (i : �
   pub placed : m .found ≡ true → Placed table l (m .at) (m .world)
 
 pub record PassSays (table : Table) (l : List ℕ) (r : Passed) : Type 0 where
-  pub ends : r .end ≡ ranOf (start table) (judge (step table) 0 (start table) l) .end
+  pub ends : r .end ≡ ranOf (judge (step table) 0 (start table) l) .end
   pub pivot : pivotOf (r .mark) ≡ pass (step table) decisions (left table) nowhere 0 (start table) l
   pub placed : r .mark .found ≡ true → Placed table l (r .mark .at) (r .mark .world)
 

@@ -65,8 +65,8 @@ returns-3 c =
     let needed : c .before .before .before .before .before .before .before .before .sheet-length .result ≡ sheetLength t = c .before .before .before .before .before .before .before .before .sheet-length .ensures in
     let room : sheetLength t ≤ length buffer = omega (arith, needed, c .before .before .before .before .before .before .before .if1 .left) in
     c .before .before .show .ensures
-    ∙ ap (λ (x : Ran). showing t (x .end) (x .world) buffer) (c .before .before .before .before .before .run .ensures ∙ ap (λ (w : World). ranOf w (judge (step t) 0 w list)) (c .before .before .before .before .before .before .start .ensures))
-    ∙ shows t (start t) buffer room (judge (step t) 0 (start t) list)
+    ∙ ap (λ (x : Ran). showing t (x .end) (x .world) buffer) (c .before .before .before .before .before .run .ensures ∙ ap (λ (w : World). ranOf (judge (step t) 0 w list)) (c .before .before .before .before .before .before .start .ensures))
+    ∙ shows t buffer room (judge (step t) 0 (start t) list)
     ∙ judged-shown (a .table .now) _ (c .before .before .before .before .before .before .before .before .before .before .before .before .read-table .ensures) list buffer (c .before .before .before .before .before .before .before .before .before .enum-told .given .1) room
 
 pub judge-spec : {M : Type 1} → statement M

@@ -1,74 +1,54 @@
--- `judge::show` meets its contract, an end at a time.
-use mathlib.Core.Path.{sym, _∙_, ap}
+-- `judge::show` meets its contract: the sheet is written or not, and then the answer is told.
+use mathlib.Core.Path.{_≡_, refl, sym, _∙_, ap}
+use mathlib.Core.Bool.{Bool, true, false}
 use mathlib.Core.List.{List}
+use mathlib.Core.Logic.{inl, inr}
 use Prim.Native.Nat.{ℕ}
-use Rattle.rules.specs.declared.answer.Answer.the-variants.{More}
-use Rattle.rules.specs.Judge.{Given}
-use Rattle.turns.specs.declared.run.End.{End}
-use Rattle.turns.specs.Run.{showing}
+use lib.Seq.{sets, length-sets}
+use lib.ListN.{length}
 use borrow.Author.Needs.{needs}
+use Rattle.rules.specs.Sheet.{sheetOf}
+use Rattle.turns.specs.Run.{isShown, showing}
 use Rattle.turns.proofs.judge.show.Statement.{statement}
 use Rattle.turns.proofs.judge.show.Tie as tie
 
-enum-known-end : tie.Need-enum-known-end
-enum-known-end c = search needs
-
-enum-known-end-2 : tie.Need-enum-known-end-2
-enum-known-end-2 c = search needs
-
-enum-told : tie.Need-enum-told
-enum-told c = search needs
+is-shown-requires : tie.Need-is-shown-requires
+is-shown-requires c κs = search needs
 
 write-sheet-requires : tie.Need-write-sheet-requires
 write-sheet-requires c κs = search needs
 
-enum-known-end-3 : tie.Need-enum-known-end-3
-enum-known-end-3 c = search needs
+answer-of-requires : tie.Need-answer-of-requires
+answer-of-requires c κs = search needs
 
-write-sheet-requires-2 : tie.Need-write-sheet-requires-2
-write-sheet-requires-2 c κs = search needs
+-- the buffer, once the sheet is written or not
+module _ (c : tie.After-answer-of) where
+  abbrev before : List ℕ
+  before = c .before .before .before .before .args .sheet .now
+
+  abbrev bytes : List ℕ
+  bytes = sheetOf (c .before .before .before .before .args .table) (c .before .before .before .before .args .world)
+
+  abbrev if : Bool → List ℕ
+  if b = elim b [ true ↦ sets before 0 bytes | false ↦ before ]
+
+  after : c .before .if1 .sheet ≡ if (isShown (c .before .before .before .before .args .end))
+  after =
+      elim (c .before .if1 .came) [
+        | inl w ↦ w .5 ∙ w .2 .ensures ∙ ap if (sym (w .0 .taken) ∙ c .before .before .is-shown .ensures)
+        | inr w ↦ w .1 ∙ ap if (sym (w .0 .left) ∙ c .before .before .is-shown .ensures)
+      ]
+
+  long : (b : Bool) → length (if b) ≡ length before
+  long true = length-sets before 0 bytes
+  long false = refl
+
+same-length : tie.Need-same-length
+same-length c = ap (λ (xs : List ℕ). length xs) (after c) ∙ long c (isShown (c .before .before .before .before .args .end))
 
 returns : tie.Need-returns
 unfolding showing
-returns c = let a = c .before .before .before .before .args in sym (ap (λ (e : End). showing (a .table) e (a .world) (a .sheet .now)) (c .before .end .given .1))
-
-returns-2 : tie.Need-returns-2
-unfolding showing
-returns-2 c = let a = c .before .before .before .before .args in sym (ap (λ (e : End). showing (a .table) e (a .world) (a .sheet .now)) (c .before .end2 .given .1))
-
-same-length : tie.Need-same-length
-same-length c = search needs
-
-returns-3 : tie.Need-returns-3
-unfolding showing
-returns-3 c =
-    let a = c .before .before .before .before .before .before .before .args in
-    let shows : List ℕ → Given = λ bytes. record { answer = More; buffer = bytes } in
-    ap shows (c .before .before .write-sheet .ensures) ∙ sym (ap (λ (e : End). showing (a .table) e (a .world) (a .sheet .now)) (c .before .before .before .before .enum-told .given .1))
-
-same-length-2 : tie.Need-same-length-2
-same-length-2 c = search needs
-
-returns-4 : tie.Need-returns-4
-unfolding showing
-returns-4 c =
-    let a = c .before .before .before .before .before .before .before .before .args in
-    let shows : List ℕ → Given = λ bytes. record { answer = c .before .before .before .before .before .end3 .given .0 .0; buffer = bytes } in
-    ap shows (c .before .before .write-sheet2 .ensures) ∙ sym (ap (λ (e : End). showing (a .table) e (a .world) (a .sheet .now)) (c .before .before .before .before .before .end3 .given .1))
+returns c = λ i. record { answer = c .answer-of .ensures i; buffer = after c i }
 
 pub show-spec : {M : Type 1} → statement M
-show-spec =
-    tie.close
-    (tie.spec
-    enum-known-end
-    enum-known-end-2
-    enum-told
-    write-sheet-requires
-    enum-known-end-3
-    write-sheet-requires-2
-    returns
-    returns-2
-    same-length
-    returns-3
-    same-length-2
-    returns-4)
+show-spec = tie.close (tie.spec is-shown-requires write-sheet-requires answer-of-requires same-length returns)

@@ -43,11 +43,11 @@ use Rattle.turns.proofs.run.run.Statement.{statement}
 use Rattle.turns.proofs.run.run.Tie as tie
 
 abbrev Inv-loop : tie.InvT-loop
-Inv-loop world list table threads₀ objects₀ turn₀ asked₀ acting₀ at₀ threads objects turn asked acting at =
-    Running table list world threads objects turn asked acting at × (length threads ≡ 6)
+Inv-loop list table threads₀ objects₀ turn₀ asked₀ acting₀ at₀ threads objects turn asked acting at =
+    Running table list (record { threads = threads₀; objects = objects₀; turn = turn₀; asked = asked₀ }) threads objects turn asked acting at × (length threads ≡ 6)
 
 abbrev μ-loop : tie.MeasureT-loop
-μ-loop world list table threads₀ objects₀ turn₀ asked₀ acting₀ at₀ threads objects turn asked acting at =
+μ-loop list table threads₀ objects₀ turn₀ asked₀ acting₀ at₀ threads objects turn asked acting at =
     4000 * (length list - at) + weight acting
 
 -- what the loop was given, and where it stands
@@ -522,8 +522,11 @@ absent-requires c κs = search needs
 is-allowed-requires : tie.Need-is-allowed-requires Inv-loop μ-loop
 is-allowed-requires c κs = search needs
 
+refused-requires : tie.Need-refused-requires Inv-loop μ-loop
+refused-requires c κs = search needs
+
 returns-2 : tie.Need-returns-2 Inv-loop μ-loop
-returns-2 c = not-allowed (runs (c .before .before .before .before .before .before .before .before .before .before)) (c .before .before .before .before .before .before .before .before .enum-told .given .1) (omega (arith, c .before .before .before .before .before .before .before .if1 .left)) (allowed (c .before) ∙ not-true _ (c .if3 .taken))
+returns-2 c = c .refused .ensures ∙ not-allowed (runs (c .before .before .before .before .before .before .before .before .before .before .before)) (c .before .before .before .before .before .before .before .before .before .enum-told .given .1) (omega (arith, c .before .before .before .before .before .before .before .before .if1 .left)) (allowed (c .before .before) ∙ not-true _ (c .before .if3 .taken))
 
 add-at : tie.Need-add-at Inv-loop μ-loop
 add-at c = search needs
@@ -1061,8 +1064,8 @@ mul-e-18 c = search needs
 array-copy-out-e-18 : tie.Need-array-copy-out-e-18 Inv-loop μ-loop
 array-copy-out-e-18 c = search needs
 
-mutex-accessed-requires : tie.Need-mutex-accessed-requires Inv-loop μ-loop
-mutex-accessed-requires c κs = search needs
+set-last-access-requires : tie.Need-set-last-access-requires Inv-loop μ-loop
+set-last-access-requires c κs = search needs
 
 mul-objects-9 : tie.Need-mul-objects-9 Inv-loop μ-loop
 mul-objects-9 c = search needs
@@ -1074,7 +1077,7 @@ loop-less-27 : tie.Need-loop-less-27 Inv-loop μ-loop
 loop-less-27 c = omega (arith, settle-less (tl (c .before .before .before .before .before .before .before)))
 
 loop-again-27 : tie.Need-loop-again-27 Inv-loop μ-loop
-loop-again-27 c = (settle-next (c .before .before .before .before .before .before .before) _ (recorded-in (c .before .before .before .before .before .before .before) (c .before .before .before .before .before .noted-in .result) (c .before .before .before .before .before .noted-in .ensures) (c .before .before .before .before .before .before .if34 .taken) _ _ (ap (putEntry (es (at' (tl (c .before .before .before .before .before .before .before)))) (wk (tl (c .before .before .before .before .before .before .before)) .object)) (note-mutex (access (tl (c .before .before .before .before .before .before .before))) _ (c .before .before .before .enum-told3 .given .1) _ (c .mutex-accessed .ensures)))), stood-six (c .before .before .before .before .before .before .before))
+loop-again-27 c = (settle-next (c .before .before .before .before .before .before .before) _ (recorded-in (c .before .before .before .before .before .before .before) (c .before .before .before .before .before .noted-in .result) (c .before .before .before .before .before .noted-in .ensures) (c .before .before .before .before .before .before .if34 .taken) _ _ (ap (putEntry (es (at' (tl (c .before .before .before .before .before .before .before)))) (wk (tl (c .before .before .before .before .before .before .before)) .object)) (note-mutex (access (tl (c .before .before .before .before .before .before .before))) _ (c .before .before .before .enum-told3 .given .1) _ (c .set-last-access .ensures)))), stood-six (c .before .before .before .before .before .before .before))
 
 enum-told-4 : tie.Need-enum-told-4 Inv-loop μ-loop
 enum-told-4 c = search needs
@@ -1085,8 +1088,8 @@ mul-e-19 c = search needs
 array-copy-out-e-19 : tie.Need-array-copy-out-e-19 Inv-loop μ-loop
 array-copy-out-e-19 c = search needs
 
-rwlock-accessed-requires : tie.Need-rwlock-accessed-requires Inv-loop μ-loop
-rwlock-accessed-requires c κs = search needs
+set-last-access-requires-2 : tie.Need-set-last-access-requires-2 Inv-loop μ-loop
+set-last-access-requires-2 c κs = search needs
 
 mul-objects-10 : tie.Need-mul-objects-10 Inv-loop μ-loop
 mul-objects-10 c = search needs
@@ -1098,7 +1101,7 @@ loop-less-28 : tie.Need-loop-less-28 Inv-loop μ-loop
 loop-less-28 c = omega (arith, settle-less (tl (c .before .before .before .before .before .before .before)))
 
 loop-again-28 : tie.Need-loop-again-28 Inv-loop μ-loop
-loop-again-28 c = (settle-next (c .before .before .before .before .before .before .before) _ (recorded-in (c .before .before .before .before .before .before .before) (c .before .before .before .before .before .noted-in .result) (c .before .before .before .before .before .noted-in .ensures) (c .before .before .before .before .before .before .if34 .taken) _ _ (ap (putEntry (es (at' (tl (c .before .before .before .before .before .before .before)))) (wk (tl (c .before .before .before .before .before .before .before)) .object)) (note-rwlock (access (tl (c .before .before .before .before .before .before .before))) _ (c .before .before .before .enum-told4 .given .1) _ (c .rwlock-accessed .ensures)))), stood-six (c .before .before .before .before .before .before .before))
+loop-again-28 c = (settle-next (c .before .before .before .before .before .before .before) _ (recorded-in (c .before .before .before .before .before .before .before) (c .before .before .before .before .before .noted-in .result) (c .before .before .before .before .before .noted-in .ensures) (c .before .before .before .before .before .before .if34 .taken) _ _ (ap (putEntry (es (at' (tl (c .before .before .before .before .before .before .before)))) (wk (tl (c .before .before .before .before .before .before .before)) .object)) (note-rwlock (access (tl (c .before .before .before .before .before .before .before))) _ (c .before .before .before .enum-told4 .given .1) _ (c .set-last-access2 .ensures)))), stood-six (c .before .before .before .before .before .before .before))
 
 enum-told-5 : tie.Need-enum-told-5 Inv-loop μ-loop
 enum-told-5 c = search needs
@@ -1109,8 +1112,8 @@ mul-e-20 c = search needs
 array-copy-out-e-20 : tie.Need-array-copy-out-e-20 Inv-loop μ-loop
 array-copy-out-e-20 c = search needs
 
-condvar-accessed-requires : tie.Need-condvar-accessed-requires Inv-loop μ-loop
-condvar-accessed-requires c κs = search needs
+set-last-access-requires-3 : tie.Need-set-last-access-requires-3 Inv-loop μ-loop
+set-last-access-requires-3 c κs = search needs
 
 mul-objects-11 : tie.Need-mul-objects-11 Inv-loop μ-loop
 mul-objects-11 c = search needs
@@ -1122,7 +1125,7 @@ loop-less-29 : tie.Need-loop-less-29 Inv-loop μ-loop
 loop-less-29 c = omega (arith, settle-less (tl (c .before .before .before .before .before .before .before)))
 
 loop-again-29 : tie.Need-loop-again-29 Inv-loop μ-loop
-loop-again-29 c = (settle-next (c .before .before .before .before .before .before .before) _ (recorded-in (c .before .before .before .before .before .before .before) (c .before .before .before .before .before .noted-in .result) (c .before .before .before .before .before .noted-in .ensures) (c .before .before .before .before .before .before .if34 .taken) _ _ (ap (putEntry (es (at' (tl (c .before .before .before .before .before .before .before)))) (wk (tl (c .before .before .before .before .before .before .before)) .object)) (note-condvar (access (tl (c .before .before .before .before .before .before .before))) _ (c .before .before .before .enum-told5 .given .1) _ (c .condvar-accessed .ensures)))), stood-six (c .before .before .before .before .before .before .before))
+loop-again-29 c = (settle-next (c .before .before .before .before .before .before .before) _ (recorded-in (c .before .before .before .before .before .before .before) (c .before .before .before .before .before .noted-in .result) (c .before .before .before .before .before .noted-in .ensures) (c .before .before .before .before .before .before .if34 .taken) _ _ (ap (putEntry (es (at' (tl (c .before .before .before .before .before .before .before)))) (wk (tl (c .before .before .before .before .before .before .before)) .object)) (note-condvar (access (tl (c .before .before .before .before .before .before .before))) _ (c .before .before .before .enum-told5 .given .1) _ (c .set-last-access3 .ensures)))), stood-six (c .before .before .before .before .before .before .before))
 
 enum-told-6 : tie.Need-enum-told-6 Inv-loop μ-loop
 enum-told-6 c = search needs
@@ -1133,8 +1136,8 @@ mul-e-21 c = search needs
 array-copy-out-e-21 : tie.Need-array-copy-out-e-21 Inv-loop μ-loop
 array-copy-out-e-21 c = search needs
 
-notify-accessed-requires : tie.Need-notify-accessed-requires Inv-loop μ-loop
-notify-accessed-requires c κs = search needs
+set-last-access-requires-4 : tie.Need-set-last-access-requires-4 Inv-loop μ-loop
+set-last-access-requires-4 c κs = search needs
 
 mul-objects-12 : tie.Need-mul-objects-12 Inv-loop μ-loop
 mul-objects-12 c = search needs
@@ -1146,7 +1149,7 @@ loop-less-30 : tie.Need-loop-less-30 Inv-loop μ-loop
 loop-less-30 c = omega (arith, settle-less (tl (c .before .before .before .before .before .before .before)))
 
 loop-again-30 : tie.Need-loop-again-30 Inv-loop μ-loop
-loop-again-30 c = (settle-next (c .before .before .before .before .before .before .before) _ (recorded-in (c .before .before .before .before .before .before .before) (c .before .before .before .before .before .noted-in .result) (c .before .before .before .before .before .noted-in .ensures) (c .before .before .before .before .before .before .if34 .taken) _ _ (ap (putEntry (es (at' (tl (c .before .before .before .before .before .before .before)))) (wk (tl (c .before .before .before .before .before .before .before)) .object)) (note-notify (access (tl (c .before .before .before .before .before .before .before))) _ (c .before .before .before .enum-told6 .given .1) _ (c .notify-accessed .ensures)))), stood-six (c .before .before .before .before .before .before .before))
+loop-again-30 c = (settle-next (c .before .before .before .before .before .before .before) _ (recorded-in (c .before .before .before .before .before .before .before) (c .before .before .before .before .before .noted-in .result) (c .before .before .before .before .before .noted-in .ensures) (c .before .before .before .before .before .before .if34 .taken) _ _ (ap (putEntry (es (at' (tl (c .before .before .before .before .before .before .before)))) (wk (tl (c .before .before .before .before .before .before .before)) .object)) (note-notify (access (tl (c .before .before .before .before .before .before .before))) _ (c .before .before .before .enum-told6 .given .1) _ (c .set-last-access4 .ensures)))), stood-six (c .before .before .before .before .before .before .before))
 
 enum-known-a : tie.Need-enum-known-a Inv-loop μ-loop
 enum-known-a c = search needs
@@ -1157,8 +1160,8 @@ mul-e-22 c = search needs
 array-copy-out-e-22 : tie.Need-array-copy-out-e-22 Inv-loop μ-loop
 array-copy-out-e-22 c = search needs
 
-set-last-access-requires : tie.Need-set-last-access-requires Inv-loop μ-loop
-set-last-access-requires c κs = search needs
+set-last-access-requires-5 : tie.Need-set-last-access-requires-5 Inv-loop μ-loop
+set-last-access-requires-5 c κs = search needs
 
 mul-objects-13 : tie.Need-mul-objects-13 Inv-loop μ-loop
 mul-objects-13 c = search needs
@@ -1170,7 +1173,7 @@ loop-less-31 : tie.Need-loop-less-31 Inv-loop μ-loop
 loop-less-31 c = omega (arith, settle-less (tl (c .before .before .before .before .before .before .before .before)))
 
 loop-again-31 : tie.Need-loop-again-31 Inv-loop μ-loop
-loop-again-31 c = (settle-next (c .before .before .before .before .before .before .before .before) _ (recorded-in (c .before .before .before .before .before .before .before .before) (c .before .before .before .before .before .before .noted-in .result) (c .before .before .before .before .before .before .noted-in .ensures) (c .before .before .before .before .before .before .before .if34 .taken) _ _ (ap (putEntry (es (at' (tl (c .before .before .before .before .before .before .before .before)))) (wk (tl (c .before .before .before .before .before .before .before .before)) .object)) (note-channel (access (tl (c .before .before .before .before .before .before .before .before))) _ (c .before .before .before .before .a .given .1) _ (c .set-last-access .ensures)))), stood-six (c .before .before .before .before .before .before .before .before))
+loop-again-31 c = (settle-next (c .before .before .before .before .before .before .before .before) _ (recorded-in (c .before .before .before .before .before .before .before .before) (c .before .before .before .before .before .before .noted-in .result) (c .before .before .before .before .before .before .noted-in .ensures) (c .before .before .before .before .before .before .before .if34 .taken) _ _ (ap (putEntry (es (at' (tl (c .before .before .before .before .before .before .before .before)))) (wk (tl (c .before .before .before .before .before .before .before .before)) .object)) (note-channel (access (tl (c .before .before .before .before .before .before .before .before))) _ (c .before .before .before .before .a .given .1) _ (c .set-last-access5 .ensures)))), stood-six (c .before .before .before .before .before .before .before .before))
 
 enum-known-a-2 : tie.Need-enum-known-a-2 Inv-loop μ-loop
 enum-known-a-2 c = search needs
@@ -1181,8 +1184,8 @@ mul-e-23 c = search needs
 array-copy-out-e-23 : tie.Need-array-copy-out-e-23 Inv-loop μ-loop
 array-copy-out-e-23 c = search needs
 
-set-last-access-requires-2 : tie.Need-set-last-access-requires-2 Inv-loop μ-loop
-set-last-access-requires-2 c κs = search needs
+set-last-access-requires-6 : tie.Need-set-last-access-requires-6 Inv-loop μ-loop
+set-last-access-requires-6 c κs = search needs
 
 mul-objects-14 : tie.Need-mul-objects-14 Inv-loop μ-loop
 mul-objects-14 c = search needs
@@ -1194,7 +1197,7 @@ loop-less-32 : tie.Need-loop-less-32 Inv-loop μ-loop
 loop-less-32 c = omega (arith, settle-less (tl (c .before .before .before .before .before .before .before .before)))
 
 loop-again-32 : tie.Need-loop-again-32 Inv-loop μ-loop
-loop-again-32 c = (settle-next (c .before .before .before .before .before .before .before .before) _ (recorded-in (c .before .before .before .before .before .before .before .before) (c .before .before .before .before .before .before .noted-in .result) (c .before .before .before .before .before .before .noted-in .ensures) (c .before .before .before .before .before .before .before .if34 .taken) _ _ (ap (putEntry (es (at' (tl (c .before .before .before .before .before .before .before .before)))) (wk (tl (c .before .before .before .before .before .before .before .before)) .object)) (note-arc (access (tl (c .before .before .before .before .before .before .before .before))) _ (c .before .before .before .before .a2 .given .1) _ (c .set-last-access2 .ensures)))), stood-six (c .before .before .before .before .before .before .before .before))
+loop-again-32 c = (settle-next (c .before .before .before .before .before .before .before .before) _ (recorded-in (c .before .before .before .before .before .before .before .before) (c .before .before .before .before .before .before .noted-in .result) (c .before .before .before .before .before .before .noted-in .ensures) (c .before .before .before .before .before .before .before .if34 .taken) _ _ (ap (putEntry (es (at' (tl (c .before .before .before .before .before .before .before .before)))) (wk (tl (c .before .before .before .before .before .before .before .before)) .object)) (note-arc (access (tl (c .before .before .before .before .before .before .before .before))) _ (c .before .before .before .before .a2 .given .1) _ (c .set-last-access6 .ensures)))), stood-six (c .before .before .before .before .before .before .before .before))
 
 enum-told-7 : tie.Need-enum-told-7 Inv-loop μ-loop
 enum-told-7 c = search needs
@@ -1238,8 +1241,11 @@ loop-again-36 c = (all-ended (runs (c .before .before .before)) (c .before .enum
 enum-known-acting-3 : tie.Need-enum-known-acting-3 Inv-loop μ-loop
 enum-known-acting-3 c = search needs
 
+refused-requires-2 : tie.Need-refused-requires-2 Inv-loop μ-loop
+refused-requires-2 c κs = search needs
+
 returns-3 : tie.Need-returns-3 Inv-loop μ-loop
-returns-3 c = surplus-left (runs (c .before .before .before .before)) _ (c .before .before .acting3 .given .1) (c .if35 .taken)
+returns-3 c = c .refused2 .ensures ∙ surplus-left (runs (c .before .before .before .before .before)) _ (c .before .before .before .acting3 .given .1) (c .before .if35 .taken)
 
 came-to-requires-2 : tie.Need-came-to-requires-2 Inv-loop μ-loop
 came-to-requires-2 c κs = search needs
@@ -1265,6 +1271,7 @@ run-spec =
     array-copy-out-x
     absent-requires
     is-allowed-requires
+    refused-requires
     returns-2
     add-at
     loop-less
@@ -1442,7 +1449,7 @@ run-spec =
     enum-told-3
     mul-e-18
     array-copy-out-e-18
-    mutex-accessed-requires
+    set-last-access-requires
     mul-objects-9
     array-set-from-objects-9
     loop-less-27
@@ -1450,7 +1457,7 @@ run-spec =
     enum-told-4
     mul-e-19
     array-copy-out-e-19
-    rwlock-accessed-requires
+    set-last-access-requires-2
     mul-objects-10
     array-set-from-objects-10
     loop-less-28
@@ -1458,7 +1465,7 @@ run-spec =
     enum-told-5
     mul-e-20
     array-copy-out-e-20
-    condvar-accessed-requires
+    set-last-access-requires-3
     mul-objects-11
     array-set-from-objects-11
     loop-less-29
@@ -1466,7 +1473,7 @@ run-spec =
     enum-told-6
     mul-e-21
     array-copy-out-e-21
-    notify-accessed-requires
+    set-last-access-requires-4
     mul-objects-12
     array-set-from-objects-12
     loop-less-30
@@ -1474,7 +1481,7 @@ run-spec =
     enum-known-a
     mul-e-22
     array-copy-out-e-22
-    set-last-access-requires
+    set-last-access-requires-5
     mul-objects-13
     array-set-from-objects-13
     loop-less-31
@@ -1482,7 +1489,7 @@ run-spec =
     enum-known-a-2
     mul-e-23
     array-copy-out-e-23
-    set-last-access-requires-2
+    set-last-access-requires-6
     mul-objects-14
     array-set-from-objects-14
     loop-less-32
@@ -1501,6 +1508,7 @@ run-spec =
     loop-less-36
     loop-again-36
     enum-known-acting-3
+    refused-requires-2
     returns-3
     came-to-requires-2
     returns-4)
