@@ -1,9 +1,9 @@
 -- No run of an accepted table meets a type's end: wherever a count rises, it rises by one.
-use mathlib.Core.Path.{_≡_, refl, ap}
+use mathlib.Core.Path.{_≡_}
 use mathlib.Core.List.{List}
 use Prim.Native.Nat.{ℕ, _+_, _<_}
 use native.Mathlib.Omega.{arith}
-use lib.ListN.{length, getD}
+use lib.ListN.{getD}
 use Rattle.clocks.specs.Clock.{risen, joinOf}
 use Rattle.clocks.specs.declared.thread.ThreadId.{ThreadId}
 use Rattle.rules.specs.declared.object.ObjectId.{ObjectId}
@@ -13,18 +13,16 @@ use Rattle.rules.specs.declared.thread.Thread.{Thread}
 use Rattle.rules.specs.declared.table.Call.{Call}
 use Rattle.rules.specs.declared.table.Table.{Table}
 use Rattle.rules.specs.declared.world.World.{World}
-use Rattle.rules.specs.Ground.{absent, threadAt}
+use Rattle.rules.specs.Ground.{threadAt}
 use Rattle.rules.specs.Object.{lastDependentAccess}
 use Rattle.rules.specs.Table.{accepted, readTable}
 use Rattle.rules.specs.Effect.{effect}
 use Rattle.rules.specs.Turn.{threadIn, entryIn}
+use Rattle.effects.specs.Keeps.{keeps-position}
 use Rattle.ends.specs.Reached.{Reached}
 use Rattle.ends.specs.Each.{Each, each-both}
 use Rattle.ends.specs.Turns.{turn-rises}
 use Rattle.ends.specs.Counts.{arc-below, readers-below}
-use Rattle.ends.specs.Kept.{effect-kept}
-use Rattle.ends.specs.Range.{There, there}
-use Rattle.ends.specs.Phases.{Any, any-join, any-object}
 use Rattle.ends.specs.Clocks.{position-few, dependence-below, counts-below}
 
 -- Before an effect of the thread t: its own count, the Arc's count and the cell's readers rise by one if the effect raises them; and so does its
@@ -34,11 +32,6 @@ pub record Plain (t : ThreadId) (c : Call) (e : Entry) (ts : List Thread) : Type
   pub own : risen 255 (getD (threadAt ts t .clock .counts) (t .0) 0) ≡ getD (threadAt ts t .clock .counts) (t .0) 0 + 1
   pub arc : risen 65535 (e .arc .«ref_cnt») ≡ e .arc .«ref_cnt» + 1
   pub readers : risen 65535 (e .cell .«is_reading») ≡ e .cell .«is_reading» + 1
-
--- an effect leaves positions as they are
-position-same : (c : Call) (t : ThreadId) (o : ObjectId) (e : Entry) (ts : List Thread) → length ts ≡ 6 → threadAt (effect c t o e ts .threads) t .position ≡ threadAt ts t .position
-position-same c t o e ts l =
-    effect-kept Any any-join tt (λ j q f. j ≡ t .0 → q ≡ threadAt ts t .position) t o e ts (l, λ j. (tt, tt, λ i. ap (λ (k : ℕ). getD ts k absent .position) i)) (any-object e) tt c .0 .1 (t .0) .2 refl
 
 -- what rises with the decision d in the world w: the turn number, a dependence count, a position (that of a wait that ends spuriously too), and
 -- what the decision's effects raise
@@ -62,28 +55,23 @@ Thin t c e ts = (threadAt ts t .position < 255) × (getD (threadAt ts t .clock .
 abbrev Few : ThreadId → Call → Entry → List Thread → Type 0
 Few t c e ts = (e .arc .«ref_cnt» < 65535) × (e .cell .«is_reading» < 65535)
 
--- six threads, one of them with room
-abbrev Six : ThreadId → Call → Entry → List Thread → Type 0
-Six t c e ts = (length ts ≡ 6) × Thin t c e ts
-
 -- every decision in every world that a run of an accepted table reaches
 pub no-end : (bs list : List ℕ) (table : Table) (w : World) → readTable bs ≡ accepted table → Reached table list w → (d : ℕ) → NoEnd table w d
 no-end bs list table w a e d =
     let few : Each Few table w d =
     each-both (λ t c x ts. x .arc .«ref_cnt» < 65535) (λ t c x ts. x .cell .«is_reading» < 65535) Few d (λ c x ts p q. (p, q)) table w (arc-below bs list table w a e d)
     (readers-below bs list table w a e d) in
-    let six : Each Six table w d = each-both There Thin Six d (λ c x ts p q. (p .1, q)) table w (there bs list table w a e d) (counts-below bs list table w a e d) in
     record {
       turn = turn-rises bs list table w a e;
       position = λ t. plain 255 _ (omega (arith, position-few bs list table w a e t));
       dependence = λ t x o. plain 255 _ (dependence-below bs list table w a e t x o);
       effects =
-          each-both Six Few Plain d
+          each-both Thin Few Plain d
           (λ c x ts p q.
           record {
-            position = λ o. let t : ThreadId = record { 0 = d } in plain 255 _ (omega (arith, position-same c t o x ts (p .0), p .1 .0));
-            own = plain 255 _ (p .1 .1);
+            position = λ o. plain 255 _ (omega (arith, keeps-position c (record { 0 = d }) o x ts, p .0));
+            own = plain 255 _ (p .1);
             arc = plain 65535 _ (q .0);
             readers = plain 65535 _ (q .1);
-          }) table w six few;
+          }) table w (counts-below bs list table w a e d) few;
     }
