@@ -15,8 +15,9 @@ use Rattle.rules.specs.declared.table.Call.{Call}
 use Rattle.rules.specs.declared.table.Call.the-variants.{Mutex, RwLock, Condvar, Notify, Channel, Arc, Cell}
 use Rattle.rules.specs.declared.table.Made.{Made}
 use Rattle.rules.specs.declared.table.Op.{Op}
-use Rattle.rules.specs.declared.table.Record.{Record}
 use Rattle.rules.specs.declared.table.Record.the-variants as rec
+use Rattle.rules.specs.declared.table.Parsed.{Parsed}
+use Rattle.rules.specs.declared.table.Parsed.the-variants.{Whole, Bad}
 use Rattle.rules.specs.declared.table.Table.{Table}
 use Rattle.rules.specs.declared.answer.Answer.{Answer}
 use Rattle.rules.specs.Object.{noObject}
@@ -112,16 +113,16 @@ unfolding withThread
 thread-fine t h = h
 
 -- one record
-one-fine : (at : ℕ) (t : Table) (r : Record) (go : Table → Read) → Fine t → ((u : Table) → Fine u → Ends (go u)) → Ends (oneRecord at t r go)
+one-fine : (at : ℕ) (t : Table) (r : Parsed) (go : Table → Read) → Fine t → ((u : Table) → Fine u → Ends (go u)) → Ends (oneRecord at t r go)
 unfolding oneRecord objectRecord threadRecord operationRecord
-one-fine at t (rec.Object m) go h next =
+one-fine at t (Whole (rec.Object m)) go h next =
     by-test Ends (eqb (t .«thread_count») 0) (λ z. by-test Ends (ltb (t .«object_count») 16) (λ l. next _ (object-fine t m h)) (λ l. never _)) (λ z. never _)
-one-fine at t rec.Thread go h next = by-test Ends (ltb (t .«thread_count») 6) (λ l. next _ (thread-fine t h)) (λ l. never _)
-one-fine at t (rec.Operation op) go h next =
+one-fine at t (Whole rec.Thread) go h next = by-test Ends (ltb (t .«thread_count») 6) (λ l. next _ (thread-fine t h)) (λ l. never _)
+one-fine at t (Whole (rec.Operation op)) go h next =
     by-test Ends (eqb (t .«thread_count») 0) (λ z. never _)
     (λ z.
     by-test Ends (ltb (lastCount t) 32) (λ l. by-test Ends (objectsFine (t .objects) op) (λ f. next _ (op-fine t op h (named (t .objects) op (h .0) f))) (λ f. never _)) (λ l. never _))
-one-fine at t rec.Bad go h next = never _
+one-fine at t Bad go h next = never _
 
 -- the end
 end-fine : (at : ℕ) (t : Table) → Fine t → Ends (atEnd at t)

@@ -21,8 +21,9 @@ use Rattle.rules.specs.declared.table.Made.{Made}
 use Rattle.rules.specs.declared.table.Table.{Table}
 use Rattle.rules.specs.declared.table.Taken.the-variants.{Accepted, Refused}
 use Rattle.rules.specs.declared.table.TableRead.{TableRead}
-use Rattle.rules.specs.declared.table.Record.{Record}
 use Rattle.rules.specs.declared.table.Record.the-variants as rec
+use Rattle.rules.specs.declared.table.Parsed.{Parsed}
+use Rattle.rules.specs.declared.table.Parsed.the-variants.{Whole, Bad}
 use Rattle.rules.specs.declared.answer.Answer.{Answer}
 use Rattle.rules.specs.declared.answer.Answer.the-variants.{BadRecord, TooMany, BadObject}
 use Rattle.rules.specs.Object.{noObject}
@@ -73,18 +74,18 @@ bodyLength k =
     [ true ↦ 1 | false ↦ elim (eqb k 0x13) [ true ↦ 2 | false ↦ elim (eqb k 0x39) [ true ↦ 2 | false ↦ elim (isOperation k) [ true ↦ 1 | false ↦ 0 ] ] ] ]
 
 -- "Flags are 0 or 1."; the second one of a Notify says spurious
-unfoldable pub objectOf : ℕ → ℕ → ℕ → Record
-objectOf n first second = elim (leb first 1 && leb second 1) [ true ↦ rec.Object (record { kind = getD kinds n kind.Nothing; spurious = eqb second 1 }) | false ↦ rec.Bad ]
+unfoldable pub objectOf : ℕ → ℕ → ℕ → Parsed
+objectOf n first second = elim (leb first 1 && leb second 1) [ true ↦ Whole (rec.Object (record { kind = getD kinds n kind.Nothing; spurious = eqb second 1 })) | false ↦ Bad ]
 
-unfoldable pub operationOf : ℕ → ℕ → ℕ → Record
-operationOf n first second = rec.Operation (record { call = getD (calls second) n (Mutex mutex.AcquireLock); object = record { 0 = first } })
+unfoldable pub operationOf : ℕ → ℕ → ℕ → Parsed
+operationOf n first second = Whole (rec.Operation (record { call = getD (calls second) n (Mutex mutex.AcquireLock); object = record { 0 = first } }))
 
 -- the record of kind k whose body has these two bytes, 0 where it has none
-unfoldable pub wholeRecord : ℕ → ℕ → ℕ → Record
+unfoldable pub wholeRecord : ℕ → ℕ → ℕ → Parsed
 wholeRecord k first second =
     elim (isObject k) [
       | true ↦ objectOf (k - 0x10) first second
-      | false ↦ elim (eqb k 0x20) [ true ↦ rec.Thread | false ↦ elim (isOperation k) [ true ↦ operationOf (k - 0x30) first second | false ↦ rec.Bad ] ]
+      | false ↦ elim (eqb k 0x20) [ true ↦ Whole rec.Thread | false ↦ elim (isOperation k) [ true ↦ operationOf (k - 0x30) first second | false ↦ Bad ] ]
     ]
 
 -- byte i of a body of n bytes that stands before the bytes `rest`; 0 if it has none
@@ -92,9 +93,9 @@ abbrev pub bodyByte : ℕ → List ℕ → ℕ → ℕ
 bodyByte n rest i = getD (take n rest) i 0
 
 -- the record that begins with the kind k, before the bytes `rest`; "unknown kind, body cut short, bad flag" are Bad
-unfoldable pub recordOf : ℕ → List ℕ → Record
+unfoldable pub recordOf : ℕ → List ℕ → Parsed
 recordOf k rest =
-    elim (leb (bodyLength k) (length rest)) [ true ↦ wholeRecord k (bodyByte (bodyLength k) rest 0) (bodyByte (bodyLength k) rest 1) | false ↦ rec.Bad ]
+    elim (leb (bodyLength k) (length rest)) [ true ↦ wholeRecord k (bodyByte (bodyLength k) rest 0) (bodyByte (bodyLength k) rest 1) | false ↦ Bad ]
 
 -- the kind of object that an operation is on
 abbrev pub kindOf : Call → Kind
@@ -193,11 +194,11 @@ operationRecord at t op go =
           [ true ↦ elim (objectsFine (t .objects) op) [ true ↦ go (withOp t op) | false ↦ refused (BadObject at) ] | false ↦ refused (TooMany at) ]
     ]
 
-unfoldable pub oneRecord : ℕ → Table → Record → (Table → Read) → Read
-oneRecord at t (rec.Object m) go = objectRecord at t m go
-oneRecord at t rec.Thread go = threadRecord at t go
-oneRecord at t (rec.Operation op) go = operationRecord at t op go
-oneRecord at t rec.Bad go = refused (BadRecord at)
+unfoldable pub oneRecord : ℕ → Table → Parsed → (Table → Read) → Read
+oneRecord at t (Whole (rec.Object m)) go = objectRecord at t m go
+oneRecord at t (Whole rec.Thread) go = threadRecord at t go
+oneRecord at t (Whole (rec.Operation op)) go = operationRecord at t op go
+oneRecord at t Bad go = refused (BadRecord at)
 
 -- "no thread at all (place: table length)"
 unfoldable pub atEnd : ℕ → Table → Read

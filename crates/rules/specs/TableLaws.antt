@@ -15,8 +15,9 @@ use Rattle.rules.specs.declared.table.Made.{Made}
 use Rattle.rules.specs.declared.table.Table.{Table}
 use Rattle.rules.specs.declared.table.Taken.the-variants.{Accepted, Refused}
 use Rattle.rules.specs.declared.table.TableRead.{TableRead}
-use Rattle.rules.specs.declared.table.Record.{Record}
 use Rattle.rules.specs.declared.table.Record.the-variants as rec
+use Rattle.rules.specs.declared.table.Parsed.{Parsed}
+use Rattle.rules.specs.declared.table.Parsed.the-variants.{Whole, Bad}
 use Rattle.rules.specs.declared.answer.Answer.{Answer}
 use Rattle.rules.specs.declared.answer.Answer.the-variants.{BadRecord, TooMany, BadObject}
 use Rattle.rules.specs.Table.{readOf, objectRecord, threadRecord, operationRecord, isObject, isOperation, Read, refused, accepted, lastCount, objectsFine, withObject, withThread, withOp, oneRecord, atEnd, recordOf, bodyLength, emptyTable, readFrom, readTable, opsOf}
@@ -68,9 +69,9 @@ abbrev pub andThen : Read → (Table → Read) → Read
 andThen (refused a) go = refused a
 andThen (accepted t) go = go t
 
-pub one-then : (at : ℕ) (t : Table) (r : Record) (go : Table → Read) → oneRecord at t r go ≡ andThen (oneRecord at t r accepted) go
+pub one-then : (at : ℕ) (t : Table) (r : Parsed) (go : Table → Read) → oneRecord at t r go ≡ andThen (oneRecord at t r accepted) go
 unfolding oneRecord objectRecord threadRecord operationRecord
-one-then at t (rec.Object m) go = choose (eqb (t .«thread_count») 0) (ltb (t .«object_count») 16)
+one-then at t (Whole (rec.Object m)) go = choose (eqb (t .«thread_count») 0) (ltb (t .«object_count») 16)
   where
     choose : (b c : Bool)
         → elim b [ true ↦ elim c [ true ↦ go (withObject t m) | false ↦ refused (TooMany at) ] | false ↦ refused (BadRecord at) ]
@@ -78,13 +79,13 @@ one-then at t (rec.Object m) go = choose (eqb (t .«thread_count») 0) (ltb (t .
     choose true true = refl
     choose true false = refl
     choose false c = refl
-one-then at t rec.Thread go = choose (ltb (t .«thread_count») 6)
+one-then at t (Whole rec.Thread) go = choose (ltb (t .«thread_count») 6)
   where
     choose : (b : Bool)
         → elim b [ true ↦ go (withThread t) | false ↦ refused (TooMany at) ] ≡ andThen (elim b [ true ↦ accepted (withThread t) | false ↦ refused (TooMany at) ]) go
     choose true = refl
     choose false = refl
-one-then at t (rec.Operation op) go = choose (eqb (t .«thread_count») 0) (ltb (lastCount t) 32) (objectsFine (t .objects) op)
+one-then at t (Whole (rec.Operation op)) go = choose (eqb (t .«thread_count») 0) (ltb (lastCount t) 32) (objectsFine (t .objects) op)
   where
     choose : (b c d : Bool)
         → elim b [ true ↦ refused (BadRecord at) | false ↦ elim c [ true ↦ elim d [ true ↦ go (withOp t op) | false ↦ refused (BadObject at) ] | false ↦ refused (TooMany at) ] ]
@@ -93,7 +94,7 @@ one-then at t (rec.Operation op) go = choose (eqb (t .«thread_count») 0) (ltb 
     choose false true true = refl
     choose false true false = refl
     choose false false d = refl
-one-then at t rec.Bad go = refl
+one-then at t Bad go = refl
 
 -- more than enough is as good as enough: the number only has to be at least the bytes left
 pub enough : (n m at : ℕ) (bs : List ℕ) (t : Table) → length bs ≤ n → length bs ≤ m → readFrom n at bs t ≡ readFrom m at bs t
@@ -187,23 +188,23 @@ module _ (I : ℕ → Table → Type 0) (Q : Read → Type 0)
   positive zero e = absurd (eqb-false 0 0 e refl)
   positive (suc n) e = omega arith
 
-  one-by : (at past : ℕ) → past ≤ at + 3 → (t : Table) (r : Record) (go : Table → Read) → I at t → ((u : Table) → I past u → Q (go u)) → Q (oneRecord at t r go)
+  one-by : (at past : ℕ) → past ≤ at + 3 → (t : Table) (r : Parsed) (go : Table → Read) → I at t → ((u : Table) → I past u → Q (go u)) → Q (oneRecord at t r go)
   unfolding oneRecord objectRecord threadRecord operationRecord
-  one-by at past on t (rec.Object m) go i next =
+  one-by at past on t (Whole (rec.Object m)) go i next =
       by-test Q (eqb (t .«thread_count») 0)
       (λ z.
       by-test Q (ltb (t .«object_count») 16)
       (λ l. next _ (object at past t m on (eqb-true (t .«thread_count») 0 z) (ltb-true (t .«object_count») 16 l) i)) (λ l. stops at t i .1)) (λ z. stops at t i .0)
-  one-by at past on t rec.Thread go i next =
+  one-by at past on t (Whole rec.Thread) go i next =
       by-test Q (ltb (t .«thread_count») 6) (λ l. next _ (thread at past t on (ltb-true (t .«thread_count») 6 l) i)) (λ l. stops at t i .1)
-  one-by at past on t (rec.Operation op) go i next =
+  one-by at past on t (Whole (rec.Operation op)) go i next =
       by-test Q (eqb (t .«thread_count») 0) (λ z. stops at t i .0)
       (λ z.
       by-test Q (ltb (lastCount t) 32)
       (λ l.
       by-test Q (objectsFine (t .objects) op) (λ f. next _ (operation at past t op on (positive (t .«thread_count») z) (ltb-true (lastCount t) 32 l) i)) (λ f. stops at t i .2))
       (λ l. stops at t i .1))
-  one-by at past on t rec.Bad go i next = stops at t i .0
+  one-by at past on t Bad go i next = stops at t i .0
 
   end-by : (at : ℕ) (t : Table) → I at t → Q (atEnd at t)
   unfolding atEnd

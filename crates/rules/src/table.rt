@@ -46,6 +46,11 @@ pub enum Record {
     Object(Made),
     Thread,
     Operation(Op),
+}
+
+// What the bytes at a place are read as.
+pub enum Parsed {
+    Whole(Record),
     Bad,
 }
 

@@ -22,6 +22,7 @@ use rules::rwlock;
 use rules::table::Call;
 use rules::table::Made;
 use rules::table::Op;
+use rules::table::Parsed;
 use rules::table::Record;
 use rules::table::Table;
 use rules::table::TableRead;
@@ -141,43 +142,43 @@ fn call_at(n: u8, second: u8) -> Call
     }
 }
 
-fn object_of(n: u8, first: u8, second: u8) -> Record
+fn object_of(n: u8, first: u8, second: u8) -> Parsed
     ensures { λ r. ⌜ r ≡ objectOf n first second ⌝ }
 {
     if first <= 1 {
         if second <= 1 {
             let kind = kind_at(n);
-            return Record::Object(Made {
+            return Parsed::Whole(Record::Object(Made {
                 kind: kind,
                 spurious: second == 1,
-            });
+            }));
         }
     }
-    Record::Bad
+    Parsed::Bad
 }
 
-fn operation_of(n: u8, first: u8, second: u8) -> Record
+fn operation_of(n: u8, first: u8, second: u8) -> Parsed
     ensures { λ r. ⌜ r ≡ operationOf n first second ⌝ }
 {
-    Record::Operation(Op {
+    Parsed::Whole(Record::Operation(Op {
         call: call_at(n, second),
         object: ObjectId(first),
-    })
+    }))
 }
 
-fn whole_record(k: u8, first: u8, second: u8) -> Record
+fn whole_record(k: u8, first: u8, second: u8) -> Parsed
     ensures { λ r. ⌜ r ≡ wholeRecord k first second ⌝ }
 {
     if is_object(k) {
         return object_of(k - 0x10, first, second);
     }
     if k == 0x20 {
-        return Record::Thread;
+        return Parsed::Whole(Record::Thread);
     }
     if is_operation(k) {
         return operation_of(k - 0x30, first, second);
     }
-    Record::Bad
+    Parsed::Bad
 }
 
 // Byte i of a body of n bytes that begins at `from`; 0 if it has none.
@@ -195,7 +196,7 @@ fn body_byte(bytes: &[u8], from: usize, n: usize, i: usize) -> u8
 }
 
 // The record that begins at `at`, whose body has n bytes; past the end there is none.
-fn read_record(bytes: &[u8], at: usize, n: usize) -> Record
+fn read_record(bytes: &[u8], at: usize, n: usize) -> Parsed
     requires { ⌜ (at < length (now bytes)) × (n ≡ bodyLength (getD (now bytes) at 0)) ⌝ }
     ensures { λ r. ⌜ r ≡ recordOf (getD (now (bytes .entry)) at 0) (drop (at + 1) (now (bytes .entry))) ⌝ }
 {
@@ -206,7 +207,7 @@ fn read_record(bytes: &[u8], at: usize, n: usize) -> Record
         let second = body_byte(bytes, from, n, 1);
         return whole_record(k, first, second);
     }
-    Record::Bad
+    Parsed::Bad
 }
 
 fn kind_of(call: Call) -> Kind
@@ -316,8 +317,10 @@ pub fn read_table(bytes: &[u8]) -> TableRead
     let mut at = 0;
     while at < bytes.len() {
         let n = body_length(bytes[at]);
-        let one = read_record(bytes, at, n);
         let next = at + 1 + n;
+        let Parsed::Whole(one) = read_record(bytes, at, n) else {
+            return refused(Answer::BadRecord(at));
+        };
         match one {
             Record::Object(m) => {
                 if table.thread_count != 0 {
@@ -355,9 +358,6 @@ pub fn read_table(bytes: &[u8]) -> TableRead
                 table.ops[i] = op;
                 table.counts[thread] = count + 1;
                 at = next;
-            }
-            Record::Bad => {
-                return refused(Answer::BadRecord(at));
             }
         }
     }

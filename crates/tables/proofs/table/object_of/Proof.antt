@@ -3,6 +3,7 @@ use mathlib.Core.Path.{_∙_, ap}
 use lib.Dec.{eqb}
 use borrow.Author.Tests.{le-leb, lt-leb}
 use Rattle.rules.specs.declared.object.Kind.{Kind}
+use Rattle.rules.specs.declared.table.Parsed.the-variants.{Whole}
 use Rattle.rules.specs.declared.table.Record.the-variants.{Object}
 use Rattle.rules.specs.Table.{objectOf}
 use borrow.Author.Needs.{needs}
@@ -16,7 +17,7 @@ returns : tie.Need-returns
 unfolding objectOf
 returns c =
     let a = c .before .before .before .args in
-    ap (λ (k : Kind). Object (record { kind = k; spurious = eqb (a .second) 1 })) (c .kind-at .ensures)
+    ap (λ (k : Kind). Whole (Object (record { kind = k; spurious = eqb (a .second) 1 }))) (c .kind-at .ensures)
     ∙ rw (objectOf, le-leb _ _ (c .before .before .if1 .taken), le-leb _ _ (c .before .if2 .taken))
 
 returns-2 : tie.Need-returns-2

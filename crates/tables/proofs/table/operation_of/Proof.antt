@@ -1,6 +1,7 @@
 -- `table::operation_of` meets its contract.
 use mathlib.Core.Path.{ap}
 use Rattle.rules.specs.declared.table.Call.{Call}
+use Rattle.rules.specs.declared.table.Parsed.the-variants.{Whole}
 use Rattle.rules.specs.declared.table.Record.the-variants.{Operation}
 use Rattle.rules.specs.Table.{operationOf}
 use borrow.Author.Needs.{needs}
@@ -12,7 +13,7 @@ call-at-requires c κs = search needs
 
 returns : tie.Need-returns
 unfolding operationOf
-returns c = let a = c .before .args in ap (λ (k : Call). Operation (record { call = k; object = record { 0 = a .first } })) (c .call-at .ensures)
+returns c = let a = c .before .args in ap (λ (k : Call). Whole (Operation (record { call = k; object = record { 0 = a .first } }))) (c .call-at .ensures)
 
 pub operation-of-spec : {M : Type 1} → statement M
 operation-of-spec = tie.close (tie.spec call-at-requires returns)
