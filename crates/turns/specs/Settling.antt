@@ -60,19 +60,19 @@ work-subject p (Waits t o) b op h = refl
 
 -- what is done leaves the position and the dependence clock of the thread that acts
 module _ (t : ThreadId) (o : ObjectId) (e : Entry) (ts : List Thread) where
+  module _ {A : Type 0} (f : Thread → A) (kept : (c : Call) → f (threadAt (rules.effect c t o e ts .threads) t) ≡ f (threadAt ts t)) where
+    done-keeps : (m : Move) (c : Call) → f (threadAt (does (deedIn m c) t o e ts .threads) t) ≡ f (threadAt ts t)
+    unfolding does
+    done-keeps (Begins u) c = ap (λ (r : Effect). f (threadAt (r .threads) t)) (does-of c t o e ts) ∙ kept c
+    done-keeps (Answers u b) c = refl
+    done-keeps (Goes u p) c = ap (λ (r : Effect). f (threadAt (r .threads) t)) (does-of c t o e ts) ∙ kept c
+    done-keeps (Waits u p) c = ap (λ (r : Effect). f (threadAt (r .threads) t)) (does-of c t o e ts) ∙ kept c
+
   done-position : (m : Move) (c : Call) → threadAt (does (deedIn m c) t o e ts .threads) t .position ≡ threadAt ts t .position
-  unfolding does
-  done-position (Begins u) c = ap (λ (r : Effect). threadAt (r .threads) t .position) (does-of c t o e ts) ∙ keeps-position c t o e ts
-  done-position (Answers u b) c = refl
-  done-position (Goes u p) c = ap (λ (r : Effect). threadAt (r .threads) t .position) (does-of c t o e ts) ∙ keeps-position c t o e ts
-  done-position (Waits u p) c = ap (λ (r : Effect). threadAt (r .threads) t .position) (does-of c t o e ts) ∙ keeps-position c t o e ts
+  done-position = done-keeps (λ x. x .position) (λ c. keeps-position c t o e ts)
 
   done-dependence : (m : Move) (c : Call) → threadAt (does (deedIn m c) t o e ts .threads) t .dependence ≡ threadAt ts t .dependence
-  unfolding does
-  done-dependence (Begins u) c = ap (λ (r : Effect). threadAt (r .threads) t .dependence) (does-of c t o e ts) ∙ keeps-dependence c t o e ts
-  done-dependence (Answers u b) c = refl
-  done-dependence (Goes u p) c = ap (λ (r : Effect). threadAt (r .threads) t .dependence) (does-of c t o e ts) ∙ keeps-dependence c t o e ts
-  done-dependence (Waits u p) c = ap (λ (r : Effect). threadAt (r .threads) t .dependence) (does-of c t o e ts) ∙ keeps-dependence c t o e ts
+  done-dependence = done-keeps (λ x. x .dependence) (λ c. keeps-dependence c t o e ts)
 
 -- a version goes by the thread's dependence clock alone
 version-by : (m : Move) (a : Action) (e : Entry) (x y : Thread) → x .dependence ≡ y .dependence → versionIn m a e x ≡ versionIn m a e y
