@@ -41,9 +41,13 @@ lowestOf (b ∷ bs) = cond b 0 (suc (lowestOf bs))
 abbrev pub whoAhead : List Bool → Ahead
 whoAhead bs = cond (eqb (maskOf bs) 0) Nobody (Threads (maskOf bs) (record { 0 = lowestOf bs }))
 
+-- "1 to 6 threads"
+abbrev pub maxThreads : ℕ
+maxThreads = 6
+
 -- Clocks have one count per thread, all 0 at the start.
 abbrev pub zeroClock : Clock
-zeroClock = record { counts = replicate 6 0 }
+zeroClock = record { counts = replicate maxThreads 0 }
 
 unfoldable pub joinOf : Clock → Clock → Clock
 joinOf c d = record { counts = joined (c .counts) (d .counts) }

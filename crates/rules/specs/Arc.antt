@@ -1,20 +1,25 @@
 -- Document 01, step 5, `arc.rs`.
-use mathlib.Core.Bool.{Bool, true, false, cond}
-use mathlib.Core.List.{List}
+use mathlib.Core.Bool.{Bool, true, false}
+use mathlib.Core.List.{List, [], _∷_}
 use Prim.Native.Nat.{ℕ, _-_}
 use lib.Dec.{eqb}
 use Rattle.clocks.specs.Clock.{zeroClock, risen}
 use Rattle.clocks.specs.declared.clock.Clock.{Clock}
 use Rattle.clocks.specs.declared.thread.ThreadId.{ThreadId}
 use Rattle.rules.specs.declared.access.Access.{Access}
+use Rattle.rules.specs.declared.object.Ending.the-variants.{Misuse}
+use Rattle.rules.specs.declared.arc.Call.{Call}
+use Rattle.rules.specs.declared.arc.Call.the-variants as call
 use Rattle.rules.specs.declared.arc.Action.{Action}
 use Rattle.rules.specs.declared.arc.Action.the-variants.{RefInc, RefDec, Inspect}
 use Rattle.rules.specs.declared.arc.RefModify.{RefModify}
 use Rattle.rules.specs.declared.arc.RefModify.the-variants as modify
 use Rattle.rules.specs.declared.arc.State.{State}
-use Rattle.rules.specs.declared.arc.Counted.{Counted}
+use Rattle.rules.specs.declared.arc.Effect.{Effect}
+use Rattle.rules.specs.declared.thread.Answered.{Answered}
+use Rattle.rules.specs.declared.thread.Answered.the-variants.{Kept, Left}
 use Rattle.rules.specs.declared.thread.Thread.{Thread}
-use Rattle.rules.specs.Ground.{noAccess, stored, loaded}
+use Rattle.rules.specs.Ground.{flag, noAccess, threadAt, stored, Touch, loads, touched, Does, does, fails}
 
 -- "starts at 1"
 abbrev pub new : State
@@ -26,6 +31,17 @@ new = record {
   «last_ref_inspect» = noAccess;
   «last_ref_modification» = modify.Nothing;
 }
+
+-- a leak: the "Arc count .. not 0"
+abbrev pub leaks : State → Bool
+leaks s = elim (eqb (s .«ref_cnt») 0) [ true ↦ false | false ↦ true ]
+
+-- the action as which an operation is announced: "RefDec, as which get_mut counts"
+abbrev pub actionOf : Call → Action
+actionOf call.RefInc = RefInc
+actionOf call.RefDec = RefDec
+actionOf call.GetMut = RefDec
+actionOf call.StrongCount = Inspect
 
 abbrev pub lastModification : RefModify → State → Access
 lastModification modify.Nothing s = noAccess
@@ -63,41 +79,24 @@ withCount s n c = record {
   «last_ref_modification» = s .«last_ref_modification»;
 }
 
--- misuse at 0: the Arc is released already, and nothing changes
-abbrev pub released : State → List Thread → Counted
-released s ts = record { done = false; answer = 0; state = s; threads = ts }
-
--- "ref_inc works at 0 too"; its answer is not used
-unfoldable pub refInc : State → List Thread → Counted
-refInc s ts = record { done = true; answer = 0; state = withCount s (risen 65535 (s .«ref_cnt»)) (s .synchronize); threads = ts }
-
 -- "decrement, store, and load at 0"; the answer is 1 "if the count is now 0"
-unfoldable pub dropped : ThreadId → Clock → State → List Thread → Counted
-dropped active c s ts = record {
-  done = true;
-  answer = cond (eqb (s .«ref_cnt») 1) 1 0;
-  state = withCount s (s .«ref_cnt» - 1) c;
-  threads = elim (eqb (s .«ref_cnt») 1) [ true ↦ loaded active c ts | false ↦ ts ];
-}
+abbrev pub dropping : Clock → State → Does State
+dropping c s =
+    does (Left (flag (eqb (s .«ref_cnt») 1))) (withCount s (s .«ref_cnt» - 1) c) (elim (eqb (s .«ref_cnt») 1) [ true ↦ loads c ∷ [] | false ↦ [] ])
 
--- "ref_dec at 0 is misuse"
-unfoldable pub refDec : ThreadId → State → List Thread → Counted
-refDec active s ts = elim (eqb (s .«ref_cnt») 0) [ true ↦ released s ts | false ↦ dropped active (stored active ts (s .synchronize)) s ts ]
+-- "get_mut and strong_count load"
+abbrev pub inspecting : ℕ → State → Does State
+inspecting n s = does (Left n) s (loads (s .synchronize) ∷ [])
 
--- "get_mut and strong_count load; misuse at 0"
-unfoldable pub inspected : ThreadId → ℕ → State → List Thread → Counted
-inspected active answer s ts =
-    elim (eqb (s .«ref_cnt») 0)
-    [ true ↦ released s ts | false ↦ record { done = true; answer = answer; state = s; threads = loaded active (s .synchronize) ts } ]
+-- what an operation does; `by` is the active thread's clock. "ref_inc works at 0 too. ref_dec at 0 is misuse .. get_mut and strong_count ..; misuse at 0."
+-- get_mut answers 1 "if it is 1", strong_count "the count"
+unfoldable pub doing : Call → Clock → State → Does State
+doing call.RefInc by s = does Kept (withCount s (risen 65535 (s .«ref_cnt»)) (s .synchronize)) []
+doing call.RefDec by s = elim (eqb (s .«ref_cnt») 0) [ true ↦ fails Misuse s | false ↦ dropping (stored by (s .synchronize)) s ]
+doing call.GetMut by s = elim (eqb (s .«ref_cnt») 0) [ true ↦ fails Misuse s | false ↦ inspecting (flag (eqb (s .«ref_cnt») 1)) s ]
+doing call.StrongCount by s = elim (eqb (s .«ref_cnt») 0) [ true ↦ fails Misuse s | false ↦ inspecting (s .«ref_cnt») s ]
 
--- 1 "if it is 1"
-unfoldable pub getMut : ThreadId → State → List Thread → Counted
-getMut active s ts = inspected active (cond (eqb (s .«ref_cnt») 1) 1 0) s ts
-
--- "the count"
-unfoldable pub strongCount : ThreadId → State → List Thread → Counted
-strongCount active s ts = inspected active (s .«ref_cnt») s ts
-
--- a leak: the "Arc count .. not 0"
-abbrev pub leaks : State → Bool
-leaks s = elim (eqb (s .«ref_cnt») 0) [ true ↦ false | false ↦ true ]
+unfoldable pub effect : Call → ThreadId → State → List Thread → Effect
+effect c active s ts =
+    let d = doing c (threadAt ts active .clock) s in
+    record { ending = d .ending; answer = d .answer; state = d .state; threads = touched active (d .touches) ts }

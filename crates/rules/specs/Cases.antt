@@ -22,7 +22,6 @@ use Rattle.rules.specs.Object as object
 use Rattle.rules.specs.Table as table
 use Rattle.rules.specs.Answer as answer
 use Rattle.rules.specs.Effect as effect
-use Rattle.rules.specs.Announce as announce
 use Rattle.rules.specs.Turn as turn
 use Rattle.rules.specs.Sheet as sheet
 use Rattle.rules.specs.Judge as judge
@@ -89,25 +88,14 @@ unfoldable pub given : Calls → Case → List ℕ
 unfolding ground.loaded
     ground.unparkThread
     ground.changed ground.changedAt ground.others
-    mutex.taking mutex.postAcquire mutex.releaseLock rwlock.isReader rwlock.withReader
-    rwlock.withoutReader rwlock.reading rwlock.writing rwlock.postAcquireReadLock
-    rwlock.postAcquireWriteLock rwlock.freed rwlock.leaving rwlock.releaseReadLock rwlock.releaseWriteLock
-    mpsc.sent mpsc.send mpsc.received mpsc.recv
-    arc.refInc arc.dropped
-    arc.refDec arc.inspected arc.getMut arc.strongCount
-    notify.notify notify.wait condvar.queued condvar.notifyOne condvar.unparkEach
-    condvar.notifyAll
-    cell.firstRace cell.accessed cell.trackRead cell.trackWrite cell.startRead
-    cell.endRead cell.startWrite cell.endWrite object.newEntry object.announced
+    mutex.doing rwlock.isReader rwlock.withReader rwlock.withoutReader rwlock.doing mpsc.doing arc.doing notify.doing condvar.doing
+    cell.firstRace cell.trackRead cell.trackWrite cell.accessing cell.doing object.newEntry object.announced
     table.calls table.kinds
     table.isObject table.isOperation table.bodyLength table.objectOf table.operationOf table.wholeRecord table.recordOf
     table.isKind table.objectsFine table.emptyTable table.withObject
     table.withThread table.withOp table.objectRecord table.threadRecord table.operationRecord table.oneRecord table.atEnd table.readFrom table.readTable
-    table.opsOf answer.numbersOf effect.answered
-    effect.mutexEffect effect.rwlockEffect effect.condvarEffect effect.notifyEffect effect.channelEffect
-    effect.arcEffect effect.cellEffect effect.effect
-    announce.isDisabled
-    announce.asks
+    table.opsOf answer.numbersOf
+    effect.isDisabled effect.asks effect.lastDependentAccess effect.setLastAccess effect.doing effect.effect
     turn.allEnded turn.anyRunnable turn.leakCheck turn.stuck turn.afterStep turn.announceOp turn.retake turn.dependence turn.operate turn.advance turn.ended turn.park turn.wait turn.endingOf turn.goOn turn.thereafter turn.operation turn.turnOf turn.begin turn.spurious turn.question turn.decideAt turn.decide turn.startThread turn.start
     sheet.stateByte sheet.phaseByte sheet.threadBytes sheet.holderByte sheet.mutexBytes
     sheet.formByte sheet.whoByte sheet.rwlockBytes sheet.condvarBytes sheet.notifyBytes sheet.channelBytes

@@ -1,18 +1,22 @@
 -- Document 01, step 8, `cell.rs`.
 use mathlib.Core.Bool.{Bool, true, false, not, _||_}
+use mathlib.Core.List.{List, [], _∷_}
 use Prim.Native.Nat.{ℕ, _-_}
 use lib.Dec.{eqb}
-use Rattle.clocks.specs.Clock.{zeroClock, risen, joinOf, aheadOf}
+use Rattle.clocks.specs.Clock.{zeroClock, risen, joinOf, incOf, aheadOf}
 use Rattle.clocks.specs.declared.clock.Clock.{Clock}
 use Rattle.clocks.specs.declared.clock.Ahead.{Ahead}
 use Rattle.clocks.specs.declared.clock.Ahead.the-variants.{Nobody, Threads}
 use Rattle.clocks.specs.declared.thread.ThreadId.{ThreadId}
 use Rattle.rules.specs.declared.object.Ending.{Ending}
 use Rattle.rules.specs.declared.object.Ending.the-variants.{Fine, Misuse, NoRoom, Race}
+use Rattle.rules.specs.declared.cell.Call.{Call}
+use Rattle.rules.specs.declared.cell.Call.the-variants.{StartRead, EndRead, StartWrite, EndWrite}
 use Rattle.rules.specs.declared.cell.State.{State}
-use Rattle.rules.specs.declared.cell.Accessed.{Accessed}
+use Rattle.rules.specs.declared.cell.Effect.{Effect}
+use Rattle.rules.specs.declared.thread.Answered.the-variants.{Kept}
 use Rattle.rules.specs.declared.thread.Thread.{Thread}
-use Rattle.rules.specs.Ground.{ownCountUp}
+use Rattle.rules.specs.Ground.{threadAt, Touch, raises, touched, isFine, Does, does, fails}
 
 abbrev pub new : State
 new = record { «is_reading» = 0; «is_writing» = false; «read_access» = zeroClock; «write_access» = zeroClock }
@@ -21,70 +25,51 @@ abbrev pub isReading : State → Bool
 isReading s = not (eqb (s .«is_reading») 0)
 
 -- "44 is misuse while writing; 46 while reading or writing; 45 needs a read and no write; 47 a write and no read."
-abbrev pub startReadMisuse : State → Bool
-startReadMisuse s = s .«is_writing»
-
-abbrev pub startWriteMisuse : State → Bool
-startWriteMisuse s = isReading s || s .«is_writing»
-
-abbrev pub endReadMisuse : State → Bool
-endReadMisuse s = not (isReading s) || s .«is_writing»
-
-abbrev pub endWriteMisuse : State → Bool
-endWriteMisuse s = not (s .«is_writing») || isReading s
+abbrev pub isMisuse : Call → State → Bool
+isMisuse StartRead s = s .«is_writing»
+isMisuse EndRead s = not (isReading s) || s .«is_writing»
+isMisuse StartWrite s = isReading s || s .«is_writing»
+isMisuse EndWrite s = not (s .«is_writing») || isReading s
 
 -- "Otherwise race; other is the lowest thread ahead."
 abbrev pub racing : Ahead → Ending
 racing Nobody = Fine
 racing (Threads mask lowest) = Race lowest
 
-abbrev pub isFine : Ending → Bool
-isFine Fine = true
-isFine Misuse = false
-isFine NoRoom = false
-isFine (Race t) = false
-
 -- the first of two checks that fails
 unfoldable pub firstRace : Ending → Ending → Ending
 firstRace first second = elim (isFine first) [ true ↦ second | false ↦ first ]
 
--- "read steps need the write clock at most the thread's, and join the read clock"
+-- "read steps need the write clock at most the thread's, .. write steps check the write clock, then the read clock"; "Ends are checked again."
 unfoldable pub trackRead : Clock → State → Ending
 trackRead c s = racing (aheadOf c (s .«write_access»))
 
--- "write steps check the write clock, then the read clock, and join the write clock"
 unfoldable pub trackWrite : Clock → State → Ending
 trackWrite c s = firstRace (racing (aheadOf c (s .«write_access»))) (racing (aheadOf c (s .«read_access»)))
 
--- an access that races or is misuse leaves all as it was; `next` and `t` are what a fine one leaves
-unfoldable pub accessed : Ending → State → State → Thread → Thread → Accessed
-accessed e before next was t =
-    elim (isFine e) [ true ↦ record { ending = e; state = next; thread = t } | false ↦ record { ending = e; state = before; thread = was } ]
+-- "and join the read clock"; "and join the write clock"
+abbrev pub read : ℕ → Clock → State → State
+read n c s = record { «is_reading» = n; «is_writing» = s .«is_writing»; «read_access» = joinOf (s .«read_access») c; «write_access» = s .«write_access» }
 
--- misuse is told before the clocks are compared
-abbrev pub unless : Bool → Ending → Ending
-unless true e = Misuse
-unless false e = e
+abbrev pub written : Bool → Clock → State → State
+written b c s = record { «is_reading» = s .«is_reading»; «is_writing» = b; «read_access» = s .«read_access»; «write_access» = joinOf (s .«write_access») c }
 
-abbrev pub read : State → ℕ → Clock → State
-read s n c = record { «is_reading» = n; «is_writing» = s .«is_writing»; «read_access» = joinOf (s .«read_access») c; «write_access» = s .«write_access» }
+-- an access: misuse is told before the clocks are compared, and one that fails leaves all as it was
+unfoldable pub accessing : Bool → Ending → State → State → List Touch → Does State
+accessing misuse track s next xs = elim misuse [ true ↦ fails Misuse s | false ↦ elim (isFine track) [ true ↦ does Kept next xs | false ↦ fails track s ] ]
 
-abbrev pub written : State → Bool → Clock → State
-written s b c = record { «is_reading» = s .«is_reading»; «is_writing» = b; «read_access» = s .«read_access»; «write_access» = joinOf (s .«write_access») c }
+-- what an operation does; `by` is the active thread's clock. "Before start_read and start_write the active thread's own count rises by one."
+unfoldable pub doing : Call → ThreadId → Clock → State → Does State
+doing StartRead active by s =
+    let c = incOf by active in
+    accessing (isMisuse StartRead s) (trackRead c s) s (read (risen 65535 (s .«is_reading»)) c s) (raises ∷ [])
+doing EndRead active by s = accessing (isMisuse EndRead s) (trackRead by s) s (read (s .«is_reading» - 1) by s) []
+doing StartWrite active by s =
+    let c = incOf by active in
+    accessing (isMisuse StartWrite s) (trackWrite c s) s (written true c s) (raises ∷ [])
+doing EndWrite active by s = accessing (isMisuse EndWrite s) (trackWrite by s) s (written false by s) []
 
--- at a start "the active thread's own count rises by one" first; "Ends are checked again."
-unfoldable pub startRead : ThreadId → State → Thread → Accessed
-startRead active s t =
-    let u = ownCountUp active t in
-    accessed (unless (startReadMisuse s) (trackRead (u .clock) s)) s (read s (risen 65535 (s .«is_reading»)) (u .clock)) t u
-
-unfoldable pub endRead : State → Thread → Accessed
-endRead s t = accessed (unless (endReadMisuse s) (trackRead (t .clock) s)) s (read s (s .«is_reading» - 1) (t .clock)) t t
-
-unfoldable pub startWrite : ThreadId → State → Thread → Accessed
-startWrite active s t =
-    let u = ownCountUp active t in
-    accessed (unless (startWriteMisuse s) (trackWrite (u .clock) s)) s (written s true (u .clock)) t u
-
-unfoldable pub endWrite : State → Thread → Accessed
-endWrite s t = accessed (unless (endWriteMisuse s) (trackWrite (t .clock) s)) s (written s false (t .clock)) t t
+unfoldable pub effect : Call → ThreadId → State → List Thread → Effect
+effect c active s ts =
+    let d = doing c active (threadAt ts active .clock) s in
+    record { ending = d .ending; answer = d .answer; state = d .state; threads = touched active (d .touches) ts }

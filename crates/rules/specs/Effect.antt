@@ -1,31 +1,21 @@
--- Document 01, "Steps": what each operation does to its object and to the threads, and the last answer that it leaves.
+-- Document 01, "Steps": an operation on its object, a line for each kind. What each says is in the file of its lock.
 use mathlib.Core.Bool.{Bool, true, false}
 use mathlib.Core.List.{List}
-use Prim.Native.Nat.{ℕ}
+use Rattle.clocks.specs.declared.clock.Clock.{Clock}
 use Rattle.clocks.specs.declared.thread.ThreadId.{ThreadId}
+use Rattle.rules.specs.declared.access.Access.{Access}
 use Rattle.rules.specs.declared.object.ObjectId.{ObjectId}
+use Rattle.rules.specs.declared.object.Action.{Action}
+use Rattle.rules.specs.declared.object.Action.the-variants as action
 use Rattle.rules.specs.declared.object.Entry.{Entry}
 use Rattle.rules.specs.declared.object.Ending.{Ending}
-use Rattle.rules.specs.declared.object.Ending.the-variants as ending
-use Rattle.rules.specs.declared.mutex.Call.{Call as MutexCall}
-use Rattle.rules.specs.declared.mutex.Call.the-variants as mutex-call
-use Rattle.rules.specs.declared.rwlock.Call.{Call as RwLockCall}
-use Rattle.rules.specs.declared.rwlock.Call.the-variants as rwlock-call
-use Rattle.rules.specs.declared.condvar.Call.{Call as CondvarCall}
-use Rattle.rules.specs.declared.condvar.Call.the-variants as condvar-call
-use Rattle.rules.specs.declared.notify.Call.{Call as NotifyCall}
-use Rattle.rules.specs.declared.notify.Call.the-variants as notify-call
-use Rattle.rules.specs.declared.mpsc.Call.{Call as ChannelCall}
-use Rattle.rules.specs.declared.mpsc.Call.the-variants as mpsc-call
-use Rattle.rules.specs.declared.arc.Call.{Call as ArcCall}
-use Rattle.rules.specs.declared.arc.Call.the-variants as arc-call
-use Rattle.rules.specs.declared.cell.Call.{Call as CellCall}
-use Rattle.rules.specs.declared.cell.Call.the-variants as cell-call
+use Rattle.rules.specs.declared.condvar.Wait.{Wait}
+use Rattle.rules.specs.declared.condvar.Wait.the-variants.{Nowhere}
+use Rattle.rules.specs.declared.thread.Answered.{Answered}
 use Rattle.rules.specs.declared.thread.Thread.{Thread}
 use Rattle.rules.specs.declared.table.Call.{Call}
 use Rattle.rules.specs.declared.table.Call.the-variants.{Mutex, RwLock, Condvar, Notify, Channel, Arc, Cell}
-use Rattle.rules.specs.declared.world.Effect.{Effect}
-use Rattle.rules.specs.Ground.{flag, withAnswer, threadAt, putThread}
+use Rattle.rules.specs.Ground.{noAccess, threadAt, touched, Does}
 use Rattle.rules.specs.Object.{putMutex, putRwLock, putCondvar, putNotify, putChannel, putArc, putCell}
 use Rattle.rules.specs.Mutex as mutex
 use Rattle.rules.specs.RwLock as rwlock
@@ -34,123 +24,97 @@ use Rattle.rules.specs.Arc as arc
 use Rattle.rules.specs.Notify as notify
 use Rattle.rules.specs.Condvar as condvar
 use Rattle.rules.specs.Cell as cell
-use Rattle.rules.specs.declared.mutex.Acquired.{Acquired as MutexAcquired}
-use Rattle.rules.specs.declared.mutex.Released.{Released as MutexReleased}
-use Rattle.rules.specs.declared.rwlock.Acquired.{Acquired as RwLockAcquired}
-use Rattle.rules.specs.declared.rwlock.Released.{Released as RwLockReleased}
-use Rattle.rules.specs.declared.condvar.Queued.{Queued as CondvarQueued}
-use Rattle.rules.specs.declared.condvar.Notified.{Notified as CondvarNotified}
-use Rattle.rules.specs.declared.notify.Notified.{Notified as NotifyNotified}
-use Rattle.rules.specs.declared.notify.Waited.{Waited as NotifyWaited}
-use Rattle.rules.specs.declared.mpsc.Passed.{Passed as ChannelPassed}
-use Rattle.rules.specs.declared.arc.Counted.{Counted as ArcCounted}
-use Rattle.rules.specs.declared.cell.Accessed.{Accessed as CellAccessed}
 
--- the ending of a step that needs a condition, or room
-abbrev pub misuseUnless : Bool → Ending
-misuseUnless true = ending.Fine
-misuseUnless false = ending.Misuse
+-- "operations that need no announcement (releases 32, 37, 38 and all Cell operations)"
+abbrev pub isFree : Call → Bool
+isFree (Mutex c) = mutex.isFree c
+isFree (RwLock c) = rwlock.isFree c
+isFree (Condvar c) = false
+isFree (Notify c) = false
+isFree (Channel c) = false
+isFree (Arc c) = false
+isFree (Cell c) = true
 
-abbrev pub noRoomUnless : Bool → Ending
-noRoomUnless true = ending.Fine
-noRoomUnless false = ending.NoRoom
+-- the action as which an operation is announced
+abbrev pub actionOf : Call → Action
+actionOf (Mutex c) = action.Opaque
+actionOf (RwLock c) = action.RwLock (rwlock.actionOf c)
+actionOf (Condvar c) = action.Opaque
+actionOf (Notify c) = action.Opaque
+actionOf (Channel c) = action.Channel (mpsc.actionOf c)
+actionOf (Arc c) = action.Arc (arc.actionOf c)
+actionOf (Cell c) = action.Opaque
 
--- "Last answer: 31, 35, 36 leave 1 if taken, 41 if the count is now 0, 42 if it is 1, else 0; 43 the count; others keep it."
-unfoldable pub answered : ThreadId → ℕ → List Thread → List Thread
-answered a n ts = putThread ts a (withAnswer (threadAt ts a) n)
+-- where an operation is blocked at its announcement
+unfoldable pub isDisabled : Call → Entry → Bool
+isDisabled (Mutex c) e = mutex.isDisabled c (e .mutex)
+isDisabled (RwLock c) e = rwlock.isDisabled c (e .rwlock)
+isDisabled (Condvar c) e = false
+isDisabled (Notify c) e = notify.isDisabled c (e .notify)
+isDisabled (Channel c) e = mpsc.isDisabled c (e .channel)
+isDisabled (Arc c) e = false
+isDisabled (Cell c) e = false
 
--- What each operation does, a kind of object at a time. "An acquire, recv or wait whose condition fails when it takes effect is misuse."
-abbrev pub mutexTaken : Entry → MutexAcquired → Effect
-mutexTaken e r = record { ending = misuseUnless (r .taken); entry = putMutex e (r .state); threads = r .threads }
+-- "A Notify wait with spurious set and did_spur clear first takes a decision"
+unfoldable pub asks : Call → Entry → Bool
+asks (Mutex c) e = false
+asks (RwLock c) e = false
+asks (Condvar c) e = false
+asks (Notify c) e = notify.asks c (e .notify)
+asks (Channel c) e = false
+asks (Arc c) e = false
+asks (Cell c) e = false
 
-abbrev pub mutexTried : ThreadId → Entry → MutexAcquired → Effect
-mutexTried a e r = record { ending = ending.Fine; entry = putMutex e (r .state); threads = answered a (flag (r .taken)) (r .threads) }
+-- the mutex of a condvar wait
+abbrev pub waitOf : Call → Wait
+waitOf (Mutex c) = Nowhere
+waitOf (RwLock c) = Nowhere
+waitOf (Condvar c) = condvar.waitOf c
+waitOf (Notify c) = Nowhere
+waitOf (Channel c) = Nowhere
+waitOf (Arc c) = Nowhere
+waitOf (Cell c) = Nowhere
 
-abbrev pub mutexReleased : Entry → MutexReleased → Effect
-mutexReleased e r = record { ending = ending.Fine; entry = putMutex e (r .state); threads = r .threads }
+-- the last access that an operation depends on, and its own recorded; a cell's are not announced
+unfoldable pub lastDependentAccess : Call → Entry → Access
+lastDependentAccess (Mutex c) e = mutex.lastDependentAccess (e .mutex)
+lastDependentAccess (RwLock c) e = rwlock.lastDependentAccess (e .rwlock)
+lastDependentAccess (Condvar c) e = condvar.lastDependentAccess (e .condvar)
+lastDependentAccess (Notify c) e = notify.lastDependentAccess (e .notify)
+lastDependentAccess (Channel c) e = mpsc.lastDependentAccess (mpsc.actionOf c) (e .channel)
+lastDependentAccess (Arc c) e = arc.lastDependentAccess (arc.actionOf c) (e .arc)
+lastDependentAccess (Cell c) e = noAccess
 
-unfoldable pub mutexEffect : MutexCall → ThreadId → ObjectId → Entry → List Thread → Effect
-mutexEffect mutex-call.AcquireLock a o e ts = mutexTaken e (mutex.postAcquire a o (e .mutex) ts)
-mutexEffect mutex-call.TryAcquireLock a o e ts = mutexTried a e (mutex.postAcquire a o (e .mutex) ts)
-mutexEffect mutex-call.ReleaseLock a o e ts = mutexReleased e (mutex.releaseLock a o (e .mutex) ts)
+unfoldable pub setLastAccess : Call → Access → Entry → Entry
+setLastAccess (Mutex c) x e = putMutex e (mutex.setLastAccess x (e .mutex))
+setLastAccess (RwLock c) x e = putRwLock e (rwlock.setLastAccess x (e .rwlock))
+setLastAccess (Condvar c) x e = putCondvar e (condvar.setLastAccess x (e .condvar))
+setLastAccess (Notify c) x e = putNotify e (notify.setLastAccess x (e .notify))
+setLastAccess (Channel c) x e = putChannel e (mpsc.setLastAccess (mpsc.actionOf c) x (e .channel))
+setLastAccess (Arc c) x e = putArc e (arc.setLastAccess (arc.actionOf c) x (e .arc))
+setLastAccess (Cell c) x e = e
 
-abbrev pub rwlockTaken : Entry → RwLockAcquired → Effect
-rwlockTaken e r = record { ending = misuseUnless (r .taken); entry = putRwLock e (r .state); threads = r .threads }
+-- what an operation does, with its object around the state of its kind
+abbrev pub within : {S : Type 0} → (S → Entry) → Does S → Does Entry
+within put d = record { ending = d .ending; answer = d .answer; state = put (d .state); touches = d .touches }
 
-abbrev pub rwlockTried : ThreadId → Entry → RwLockAcquired → Effect
-rwlockTried a e r = record { ending = ending.Fine; entry = putRwLock e (r .state); threads = answered a (flag (r .taken)) (r .threads) }
+unfoldable pub doing : Call → ThreadId → ObjectId → Clock → Entry → Does Entry
+doing (Mutex c) active o by e = within (putMutex e) (mutex.doing c active o by (e .mutex))
+doing (RwLock c) active o by e = within (putRwLock e) (rwlock.doing c active o by (e .rwlock))
+doing (Condvar c) active o by e = within (putCondvar e) (condvar.doing c active (e .condvar))
+doing (Notify c) active o by e = within (putNotify e) (notify.doing c o by (e .notify))
+doing (Channel c) active o by e = within (putChannel e) (mpsc.doing c o by (e .channel))
+doing (Arc c) active o by e = within (putArc e) (arc.doing c by (e .arc))
+doing (Cell c) active o by e = within (putCell e) (cell.doing c active by (e .cell))
 
-abbrev pub rwlockReleased : Entry → RwLockReleased → Effect
-rwlockReleased e r = record { ending = misuseUnless (r .done); entry = putRwLock e (r .state); threads = r .threads }
-
-unfoldable pub rwlockEffect : RwLockCall → ThreadId → ObjectId → Entry → List Thread → Effect
-rwlockEffect rwlock-call.AcquireReadLock a o e ts = rwlockTaken e (rwlock.postAcquireReadLock a o (e .rwlock) ts)
-rwlockEffect rwlock-call.AcquireWriteLock a o e ts = rwlockTaken e (rwlock.postAcquireWriteLock a o (e .rwlock) ts)
-rwlockEffect rwlock-call.TryAcquireReadLock a o e ts = rwlockTried a e (rwlock.postAcquireReadLock a o (e .rwlock) ts)
-rwlockEffect rwlock-call.TryAcquireWriteLock a o e ts = rwlockTried a e (rwlock.postAcquireWriteLock a o (e .rwlock) ts)
-rwlockEffect rwlock-call.ReleaseReadLock a o e ts = rwlockReleased e (rwlock.releaseReadLock a o (e .rwlock) ts)
-rwlockEffect rwlock-call.ReleaseWriteLock a o e ts = rwlockReleased e (rwlock.releaseWriteLock a o (e .rwlock) ts)
-
-abbrev pub condvarQueued : Entry → List Thread → CondvarQueued → Effect
-condvarQueued e ts r = record { ending = noRoomUnless (r .done); entry = putCondvar e (r .state); threads = ts }
-
-abbrev pub condvarNotified : Entry → CondvarNotified → Effect
-condvarNotified e r = record { ending = ending.Fine; entry = putCondvar e (r .state); threads = r .threads }
-
--- a wait only queues here: what it does besides, the turn has
-unfoldable pub condvarEffect : CondvarCall → ThreadId → Entry → List Thread → Effect
-condvarEffect (condvar-call.Wait m) a e ts = condvarQueued e ts (condvar.queued a (e .condvar))
-condvarEffect condvar-call.NotifyOne a e ts = condvarNotified e (condvar.notifyOne a (e .condvar) ts)
-condvarEffect condvar-call.NotifyAll a e ts = condvarNotified e (condvar.notifyAll a (e .condvar) ts)
-
-abbrev pub notifyNotified : Entry → NotifyNotified → Effect
-notifyNotified e r = record { ending = ending.Fine; entry = putNotify e (r .state); threads = r .threads }
-
-abbrev pub notifyWaited : Entry → NotifyWaited → Effect
-notifyWaited e r = record { ending = misuseUnless (r .done); entry = putNotify e (r .state); threads = r .threads }
-
-unfoldable pub notifyEffect : NotifyCall → ThreadId → ObjectId → Entry → List Thread → Effect
-notifyEffect notify-call.Notify a o e ts = notifyNotified e (notify.notify a o (e .notify) ts)
-notifyEffect notify-call.Wait a o e ts = notifyWaited e (notify.wait a (e .notify) ts)
-
-abbrev pub channelSent : Entry → ChannelPassed → Effect
-channelSent e r = record { ending = noRoomUnless (r .done); entry = putChannel e (r .state); threads = r .threads }
-
-abbrev pub channelReceived : Entry → ChannelPassed → Effect
-channelReceived e r = record { ending = misuseUnless (r .done); entry = putChannel e (r .state); threads = r .threads }
-
-unfoldable pub channelEffect : ChannelCall → ThreadId → ObjectId → Entry → List Thread → Effect
-channelEffect mpsc-call.Send a o e ts = channelSent e (mpsc.send a o (e .channel) ts)
-channelEffect mpsc-call.Recv a o e ts = channelReceived e (mpsc.recv a o (e .channel) ts)
-
--- what a count leaves, without and with its answer
-abbrev pub arcCounted : Entry → ArcCounted → Effect
-arcCounted e r = record { ending = misuseUnless (r .done); entry = putArc e (r .state); threads = r .threads }
-
-abbrev pub arcAnswered : ThreadId → Entry → ArcCounted → Effect
-arcAnswered a e r = record { ending = misuseUnless (r .done); entry = putArc e (r .state); threads = answered a (r .answer) (r .threads) }
-
-unfoldable pub arcEffect : ArcCall → ThreadId → Entry → List Thread → Effect
-arcEffect arc-call.RefInc a e ts = arcCounted e (arc.refInc (e .arc) ts)
-arcEffect arc-call.RefDec a e ts = arcAnswered a e (arc.refDec a (e .arc) ts)
-arcEffect arc-call.GetMut a e ts = arcAnswered a e (arc.getMut a (e .arc) ts)
-arcEffect arc-call.StrongCount a e ts = arcAnswered a e (arc.strongCount a (e .arc) ts)
-
--- what an access to a cell leaves
-abbrev pub cellTouched : ThreadId → Entry → List Thread → CellAccessed → Effect
-cellTouched a e ts r = record { ending = r .ending; entry = putCell e (r .state); threads = putThread ts a (r .thread) }
-
-unfoldable pub cellEffect : CellCall → ThreadId → Entry → List Thread → Effect
-cellEffect cell-call.StartRead a e ts = cellTouched a e ts (cell.startRead a (e .cell) (threadAt ts a))
-cellEffect cell-call.EndRead a e ts = cellTouched a e ts (cell.endRead (e .cell) (threadAt ts a))
-cellEffect cell-call.StartWrite a e ts = cellTouched a e ts (cell.startWrite a (e .cell) (threadAt ts a))
-cellEffect cell-call.EndWrite a e ts = cellTouched a e ts (cell.endWrite (e .cell) (threadAt ts a))
+-- the effect of an operation on its object and on the threads
+pub record Effect : Type 0 where
+  pub ending : Ending
+  pub answer : Answered
+  pub entry : Entry
+  pub threads : List Thread
 
 unfoldable pub effect : Call → ThreadId → ObjectId → Entry → List Thread → Effect
-effect (Mutex c) a o e ts = mutexEffect c a o e ts
-effect (RwLock c) a o e ts = rwlockEffect c a o e ts
-effect (Condvar c) a o e ts = condvarEffect c a e ts
-effect (Notify c) a o e ts = notifyEffect c a o e ts
-effect (Channel c) a o e ts = channelEffect c a o e ts
-effect (Arc c) a o e ts = arcEffect c a e ts
-effect (Cell c) a o e ts = cellEffect c a e ts
+effect c active o e ts =
+    let d = doing c active o (threadAt ts active .clock) e in
+    record { ending = d .ending; answer = d .answer; entry = d .state; threads = touched active (d .touches) ts }

@@ -1,6 +1,6 @@
--- Document 01, "Ground rules": threads and clocks.
+-- Document 01, "Ground rules": threads and clocks, and what an operation may do to them.
 use mathlib.Core.Bool.{Bool, true, false}
-use mathlib.Core.List.{List}
+use mathlib.Core.List.{List, [], _∷_}
 use Prim.Native.Nat.{ℕ}
 use lib.Dec.{eqb}
 use lib.ListN.{getD, set}
@@ -12,6 +12,8 @@ use Rattle.rules.specs.declared.access.Access.{Access}
 use Rattle.rules.specs.declared.object.ObjectId.{ObjectId}
 use Rattle.rules.specs.declared.object.Action.{Action}
 use Rattle.rules.specs.declared.object.Action.the-variants as action
+use Rattle.rules.specs.declared.object.Ending.{Ending}
+use Rattle.rules.specs.declared.object.Ending.the-variants.{Fine, Misuse, NoRoom, Race}
 use Rattle.rules.specs.declared.rwlock.Action.the-variants as rwlock
 use Rattle.rules.specs.declared.mpsc.Action.the-variants as mpsc
 use Rattle.rules.specs.declared.thread.State.{State}
@@ -19,6 +21,8 @@ use Rattle.rules.specs.declared.thread.State.the-variants.{Runnable, Unp
 use Rattle.rules.specs.declared.thread.Phase.{Phase}
 use Rattle.rules.specs.declared.thread.Phase.the-variants.{Nothing, Announced, Parked, Retaking}
 use Rattle.rules.specs.declared.thread.Thread.{Thread}
+use Rattle.rules.specs.declared.thread.Answered.{Answered}
+use Rattle.rules.specs.declared.thread.Answered.the-variants.{Kept, Left}
 use Rattle.rules.specs.declared.thread.Change.{Change}
 use Rattle.rules.specs.declared.thread.Change.the-variants.{Wake, Block, BlockWriters, BlockReceivers, Unpark}
 
@@ -62,8 +66,8 @@ abbrev pub noAccess : Access
 noAccess = record { «path_id» = 0; version = zeroClock }
 
 -- "Store (Release) joins the active thread's clock into the object's clock"
-abbrev pub stored : ThreadId → List Thread → Clock → Clock
-stored active ts c = joinOf c (threadAt ts active .clock)
+abbrev pub stored : Clock → Clock → Clock
+stored by c = joinOf c by
 
 -- "load (Acquire) joins the object's into the thread's"
 unfoldable pub loaded : ThreadId → Clock → List Thread → List Thread
@@ -161,3 +165,47 @@ changedAt change active o by k t = elim (eqb k (active .0)) [ true ↦ t | false
 -- the pass that wakes, blocks or unparks
 unfoldable pub others : Change → ThreadId → ObjectId → List Thread → List Thread
 others change active o ts = passFrom (changedAt change active o (threadAt ts active .clock)) 0 ts
+
+-- "Last answer: 31, 35, 36 leave 1 if taken, 41 if the count is now 0, 42 if it is 1, else 0; 43 the count; others keep it."
+abbrev pub answering : Answered → Thread → Thread
+answering Kept t = t
+answering (Left n) t = withAnswer t n
+
+-- What an operation may do to the threads: load a clock, wake, block or unpark others, raise the own count. Nothing else is done to them.
+pub data Touch : Type 0 where
+  loads : Clock → Touch
+  passes : Change → ObjectId → Touch
+  unparks : ThreadId → Touch
+  raises : Touch
+
+abbrev pub touch : ThreadId → Touch → List Thread → List Thread
+touch active (loads c) ts = loaded active c ts
+touch active (passes change o) ts = others change active o ts
+touch active (unparks t) ts = unparkThread active t ts
+touch active raises ts = putThread ts active (ownCountUp active (threadAt ts active))
+
+-- one touch after the other
+abbrev pub touched : ThreadId → List Touch → List Thread → List Thread
+touched active [] ts = ts
+touched active (x ∷ xs) ts = touched active xs (touch active x ts)
+
+abbrev pub isFine : Ending → Bool
+isFine Fine = true
+isFine Misuse = false
+isFine NoRoom = false
+isFine (Race t) = false
+
+-- What an operation does: how it ends, the answer that it leaves, its object's state then, and what it does to the threads. It goes by the state and
+-- its own thread's clock alone.
+pub record Does (S : Type 0) : Type 0 where
+  pub ending : Ending
+  pub answer : Answered
+  pub state : S
+  pub touches : List Touch
+
+-- one that goes well, and one that fails, which leaves all as it was
+abbrev pub does : {S : Type 0} → Answered → S → List Touch → Does S
+does n s xs = record { ending = Fine; answer = n; state = s; touches = xs }
+
+abbrev pub fails : {S : Type 0} → Ending → S → Does S
+fails e s = record { ending = e; answer = Kept; state = s; touches = [] }

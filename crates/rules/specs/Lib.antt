@@ -1,3 +1,4 @@
+pub mod Limits
 pub mod Ground
 pub mod Mutex
 pub mod RwLock
@@ -7,10 +8,9 @@ pub mod Notify
 pub mod Condvar
 pub mod Cell
 pub mod Object
+pub mod Effect
 pub mod Table
 pub mod Answer
-pub mod Effect
-pub mod Announce
 pub mod Turn
 pub mod Sheet
 pub mod Judge

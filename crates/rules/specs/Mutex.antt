@@ -1,45 +1,66 @@
 -- Document 01, step 2, `mutex.rs`.
 use mathlib.Core.Bool.{Bool, true, false}
-use mathlib.Core.List.{List}
+use mathlib.Core.List.{List, [], _∷_}
 use Rattle.clocks.specs.Clock.{zeroClock}
+use Rattle.clocks.specs.declared.clock.Clock.{Clock}
 use Rattle.clocks.specs.declared.thread.ThreadId.{ThreadId}
 use Rattle.rules.specs.declared.access.Access.{Access}
 use Rattle.rules.specs.declared.object.ObjectId.{ObjectId}
+use Rattle.rules.specs.declared.object.Ending.the-variants.{Misuse}
+use Rattle.rules.specs.declared.mutex.Call.{Call}
+use Rattle.rules.specs.declared.mutex.Call.the-variants.{AcquireLock, TryAcquireLock, ReleaseLock}
 use Rattle.rules.specs.declared.mutex.Lock.{Lock}
 use Rattle.rules.specs.declared.mutex.Lock.the-variants.{Free, Held}
 use Rattle.rules.specs.declared.mutex.State.{State}
-use Rattle.rules.specs.declared.mutex.Acquired.{Acquired}
-use Rattle.rules.specs.declared.mutex.Released.{Released}
+use Rattle.rules.specs.declared.mutex.Effect.{Effect}
+use Rattle.rules.specs.declared.thread.Answered.{Answered}
+use Rattle.rules.specs.declared.thread.Answered.the-variants.{Kept, Left}
 use Rattle.rules.specs.declared.thread.Thread.{Thread}
 use Rattle.rules.specs.declared.thread.Change.the-variants.{Wake, Block}
-use Rattle.rules.specs.Ground.{noAccess, stored, loaded, others}
+use Rattle.rules.specs.Ground.{noAccess, threadAt, stored, loads, passes, touched, Does, does, fails}
 
 abbrev pub new : State
 new = record { lock = Free; «last_access» = noAccess; synchronize = zeroClock }
 
-abbrev pub withAccess : State → Access → State
-withAccess s a = record { lock = s .lock; «last_access» = a; synchronize = s .synchronize }
-
--- "announced acquire blocks if held"
 abbrev pub isLocked : Lock → Bool
 isLocked Free = false
 isLocked (Held t) = true
 
--- "Taking loads and blocks every other thread announced on the mutex, a try included."
-unfoldable pub taking : ThreadId → ObjectId → State → List Thread → Acquired
-taking active o s ts = record {
-  taken = true;
-  state = record { lock = Held active; «last_access» = s .«last_access»; synchronize = s .synchronize };
-  threads = others Block active o (loaded active (s .synchronize) ts);
-}
+-- "operations that need no announcement (releases 32, ..)"
+abbrev pub isFree : Call → Bool
+isFree AcquireLock = false
+isFree TryAcquireLock = false
+isFree ReleaseLock = true
 
--- a mutex that is held is not taken: "a try that fails changes only its answer"
-unfoldable pub postAcquire : ThreadId → ObjectId → State → List Thread → Acquired
-postAcquire active o s ts = elim (isLocked (s .lock)) [ true ↦ record { taken = false; state = s; threads = ts } | false ↦ taking active o s ts ]
+-- "announced acquire blocks if held"
+abbrev pub isDisabled : Call → State → Bool
+isDisabled AcquireLock s = isLocked (s .lock)
+isDisabled TryAcquireLock s = false
+isDisabled ReleaseLock s = false
+
+-- "Mutex, ..: any access."
+abbrev pub lastDependentAccess : State → Access
+lastDependentAccess s = s .«last_access»
+
+abbrev pub setLastAccess : Access → State → State
+setLastAccess a s = record { lock = s .lock; «last_access» = a; synchronize = s .synchronize }
+
+-- "Taking loads and blocks every other thread announced on the mutex, a try included."
+abbrev pub taking : ThreadId → ObjectId → Answered → State → Does State
+taking active o n s =
+    does n (record { lock = Held active; «last_access» = s .«last_access»; synchronize = s .synchronize }) (loads (s .synchronize) ∷ passes Block o ∷ [])
 
 -- "Release clears whoever holds, stores, and makes every other thread announced on it runnable."
-unfoldable pub releaseLock : ThreadId → ObjectId → State → List Thread → Released
-releaseLock active o s ts = record {
-  state = record { lock = Free; «last_access» = s .«last_access»; synchronize = stored active ts (s .synchronize) };
-  threads = others Wake active o ts;
-}
+abbrev pub releasing : ObjectId → Clock → State → Does State
+releasing o by s = does Kept (record { lock = Free; «last_access» = s .«last_access»; synchronize = stored by (s .synchronize) }) (passes Wake o ∷ [])
+
+-- what an operation does; `by` is the active thread's clock. "A try that fails changes only its answer."
+unfoldable pub doing : Call → ThreadId → ObjectId → Clock → State → Does State
+doing AcquireLock active o by s = elim (isLocked (s .lock)) [ true ↦ fails Misuse s | false ↦ taking active o Kept s ]
+doing TryAcquireLock active o by s = elim (isLocked (s .lock)) [ true ↦ does (Left 0) s [] | false ↦ taking active o (Left 1) s ]
+doing ReleaseLock active o by s = releasing o by s
+
+unfoldable pub effect : Call → ThreadId → ObjectId → State → List Thread → Effect
+effect c active o s ts =
+    let d = doing c active o (threadAt ts active .clock) s in
+    record { ending = d .ending; answer = d .answer; state = d .state; threads = touched active (d .touches) ts }

@@ -1,13 +1,10 @@
--- Document 01, step 1, `object.rs`: the store of objects, announcing, dependence, leaks.
+-- Document 01, step 1, `object.rs`: the store of objects, announcing, leaks.
 use mathlib.Core.Bool.{Bool, true, false}
 use mathlib.Core.List.{List}
 use lib.ListN.{getD, set}
-use Rattle.rules.specs.declared.access.Access.{Access}
 use Rattle.rules.specs.declared.object.ObjectId.{ObjectId}
 use Rattle.rules.specs.declared.object.Kind.{Kind}
 use Rattle.rules.specs.declared.object.Kind.the-variants as kind
-use Rattle.rules.specs.declared.object.Action.{Action}
-use Rattle.rules.specs.declared.object.Action.the-variants as action
 use Rattle.rules.specs.declared.object.Entry.{Entry}
 use Rattle.rules.specs.declared.mutex.State.{State as MutexState}
 use Rattle.rules.specs.declared.rwlock.State.{State as RwLockState}
@@ -19,7 +16,7 @@ use Rattle.rules.specs.declared.cell.State.{State as CellState}
 use Rattle.rules.specs.declared.thread.Phase.{Phase}
 use Rattle.rules.specs.declared.thread.Thread.{Thread}
 use Rattle.rules.specs.declared.table.Made.{Made}
-use Rattle.rules.specs.Ground.{noAccess, withPhase, setBlocked}
+use Rattle.rules.specs.Ground.{withPhase, setBlocked}
 use Rattle.rules.specs.Mutex as mutex
 use Rattle.rules.specs.RwLock as rwlock
 use Rattle.rules.specs.Mpsc as mpsc
@@ -76,40 +73,6 @@ putEntry es o e = set es (o .0) e
 -- announcing: the operation stands in the thread's phase; where it cannot go on the thread is blocked, and otherwise its state is left as it is
 unfoldable pub announced : Phase → Bool → Thread → Thread
 announced p disable t = elim disable [ true ↦ setBlocked (withPhase t p) | false ↦ withPhase t p ]
-
--- "Mutex, RwLock, Condvar, Notify: any access."
-abbrev pub anyAccess : Kind → Entry → Access
-anyAccess kind.Mutex e = e .mutex .«last_access»
-anyAccess kind.RwLock e = e .rwlock .«last_access»
-anyAccess kind.Condvar e = e .condvar .«last_access»
-anyAccess kind.Notify e = e .notify .«last_access»
-anyAccess kind.Channel e = noAccess
-anyAccess kind.Arc e = noAccess
-anyAccess kind.Cell e = noAccess
-anyAccess kind.Nothing e = noAccess
-
-abbrev pub setAnyAccess : Kind → Access → Entry → Entry
-setAnyAccess kind.Mutex a e = putMutex e (mutex.withAccess (e .mutex) a)
-setAnyAccess kind.RwLock a e = putRwLock e (rwlock.withAccess (e .rwlock) a)
-setAnyAccess kind.Condvar a e = putCondvar e (condvar.withAccess (e .condvar) a)
-setAnyAccess kind.Notify a e = putNotify e (notify.withAccess (e .notify) a)
-setAnyAccess kind.Channel a e = e
-setAnyAccess kind.Arc a e = e
-setAnyAccess kind.Cell a e = e
-setAnyAccess kind.Nothing a e = e
-
--- the last access that an action on the object depends on; Channel and Arc go by the action
-abbrev pub lastDependentAccess : Action → Entry → Access
-lastDependentAccess (action.Arc a) e = arc.lastDependentAccess a (e .arc)
-lastDependentAccess (action.Channel a) e = mpsc.lastDependentAccess a (e .channel)
-lastDependentAccess (action.RwLock a) e = anyAccess (e .kind) e
-lastDependentAccess action.Opaque e = anyAccess (e .kind) e
-
-abbrev pub setLastAccess : Action → Access → Entry → Entry
-setLastAccess (action.Arc a) x e = putArc e (arc.setLastAccess a x (e .arc))
-setLastAccess (action.Channel a) x e = putChannel e (mpsc.setLastAccess a x (e .channel))
-setLastAccess (action.RwLock a) x e = setAnyAccess (e .kind) x e
-setLastAccess action.Opaque x e = setAnyAccess (e .kind) x e
 
 -- "leak check in object order (Arc count or message count not 0)"
 abbrev pub leaks : Kind → Entry → Bool

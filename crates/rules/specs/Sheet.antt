@@ -2,9 +2,10 @@
 use mathlib.Core.List.{List, [], _∷_, _++_, map}
 use Prim.Native.Nat.{ℕ, zero, suc, _+_, _*_, _%_}
 use lib.ListN.{getD, take, drop}
-use Rattle.clocks.specs.Clock.{zeroClock}
+use Rattle.clocks.specs.Clock.{maxThreads, zeroClock}
 use Rattle.clocks.specs.declared.clock.Clock.{Clock}
 use Rattle.clocks.specs.declared.thread.ThreadId.{ThreadId}
+use Rattle.rules.specs.Limits.{maxMessages, maxWaiters}
 use Rattle.rules.specs.declared.object.Kind.{Kind}
 use Rattle.rules.specs.declared.object.Kind.the-variants as kind
 use Rattle.rules.specs.declared.object.Entry.{Entry}
@@ -46,7 +47,7 @@ byte n = n % 256
 
 -- "clock 6"
 abbrev pub clockBytes : Clock → List ℕ
-clockBytes c = filled 0 6 (c .counts)
+clockBytes c = filled 0 maxThreads (c .counts)
 
 -- "state (0 to 3 as listed above)"
 unfoldable pub stateByte : State → ℕ
@@ -93,7 +94,7 @@ abbrev pub number : ThreadId → ℕ
 number t = t .0
 
 unfoldable pub condvarBytes : CondvarState → List ℕ
-condvarBytes s = 0x92 ∷ s .count ∷ filled 255 8 (map number (s .waiters))
+condvarBytes s = 0x92 ∷ s .count ∷ filled 255 maxWaiters (map number (s .waiters))
 
 -- "93: notified, did_spur, clock"
 unfoldable pub notifyBytes : NotifyState → List ℕ
@@ -101,7 +102,7 @@ notifyBytes s = 0x93 ∷ flag (s .notified) ∷ flag (s .«did_spur») ∷ clock
 
 -- "94: count, sender clock, 16 message clocks oldest first, zero filled"
 unfoldable pub channelBytes : ChannelState → List ℕ
-channelBytes s = 0x94 ∷ s .«msg_cnt» ∷ clockBytes (s .«sender_synchronize») ++ each clockBytes (filled zeroClock 16 (s .«receiver_synchronize»))
+channelBytes s = 0x94 ∷ s .«msg_cnt» ∷ clockBytes (s .«sender_synchronize») ++ each clockBytes (filled zeroClock maxMessages (s .«receiver_synchronize»))
 
 -- "95: count, clock"
 unfoldable pub arcBytes : ArcState → List ℕ

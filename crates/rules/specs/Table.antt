@@ -4,12 +4,15 @@ use mathlib.Core.List.{List, [], _∷_}
 use Prim.Native.Nat.{ℕ, zero, suc, _+_, _-_, _*_}
 use lib.Dec.{eqb, ltb, leb}
 use lib.ListN.{length, getD, set, drop, take, replicate}
+use Rattle.clocks.specs.Clock.{maxThreads}
 use Rattle.rules.specs.declared.object.ObjectId.{ObjectId}
 use Rattle.rules.specs.declared.object.Kind.{Kind}
 use Rattle.rules.specs.declared.object.Kind.the-variants as kind
 use Rattle.rules.specs.declared.mutex.Call.the-variants as mutex
 use Rattle.rules.specs.declared.rwlock.Call.the-variants as rwlock
 use Rattle.rules.specs.declared.condvar.Call.the-variants as condvar
+use Rattle.rules.specs.declared.condvar.Wait.{Wait}
+use Rattle.rules.specs.declared.condvar.Wait.the-variants.{On, Nowhere}
 use Rattle.rules.specs.declared.notify.Call.the-variants as notify
 use Rattle.rules.specs.declared.mpsc.Call.the-variants as mpsc
 use Rattle.rules.specs.declared.arc.Call.the-variants as arc
@@ -26,7 +29,9 @@ use Rattle.rules.specs.declared.table.Parsed.{Parsed}
 use Rattle.rules.specs.declared.table.Parsed.the-variants.{Whole, Bad}
 use Rattle.rules.specs.declared.answer.Answer.{Answer}
 use Rattle.rules.specs.declared.answer.Answer.the-variants.{BadRecord, TooMany, BadObject}
+use Rattle.rules.specs.Limits.{maxObjects, maxOperations, opPlaces}
 use Rattle.rules.specs.Object.{noObject}
+use Rattle.rules.specs.Effect.{waitOf}
 
 -- the operations, from 30 to 47 in order; `b` is the second byte of the body
 unfoldable pub calls : ℕ → List Call
@@ -121,27 +126,20 @@ kindNumber kind.Nothing = 7
 unfoldable pub isKind : List Made → ObjectId → Kind → Bool
 isKind ms o k = eqb (kindNumber (getD ms (o .0) noObject .kind)) (kindNumber k)
 
-abbrev pub mutexFine : List Made → Call → Bool
-mutexFine ms (Mutex c) = true
-mutexFine ms (RwLock c) = true
-mutexFine ms (Condvar (condvar.Wait m)) = isKind ms m kind.Mutex
-mutexFine ms (Condvar condvar.NotifyOne) = true
-mutexFine ms (Condvar condvar.NotifyAll) = true
-mutexFine ms (Notify c) = true
-mutexFine ms (Channel c) = true
-mutexFine ms (Arc c) = true
-mutexFine ms (Cell c) = true
+abbrev pub mutexFine : List Made → Wait → Bool
+mutexFine ms Nowhere = true
+mutexFine ms (On m) = isKind ms m kind.Mutex
 
 -- "object absent or of the wrong kind (for 39: condvar checked before mutex)"
 unfoldable pub objectsFine : List Made → Op → Bool
-objectsFine ms op = isKind ms (op .object) (kindOf (op .call)) && mutexFine ms (op .call)
+objectsFine ms op = isKind ms (op .object) (kindOf (op .call)) && mutexFine ms (waitOf (op .call))
 
 -- a table with no record
 abbrev pub noOp : Op
 noOp = record { call = Mutex mutex.AcquireLock; object = record { 0 = 0 } }
 
 unfoldable pub emptyTable : Table
-emptyTable = record { objects = replicate 16 noObject; «object_count» = 0; ops = replicate 192 noOp; counts = replicate 6 0; «thread_count» = 0 }
+emptyTable = record { objects = replicate maxObjects noObject; «object_count» = 0; ops = replicate opPlaces noOp; counts = replicate maxThreads 0; «thread_count» = 0 }
 
 -- one more object, thread, operation of the last thread
 unfoldable pub withObject : Table → Made → Table
@@ -166,7 +164,7 @@ unfoldable pub withOp : Table → Op → Table
 withOp t op = record {
   objects = t .objects;
   «object_count» = t .«object_count»;
-  ops = set (t .ops) (32 * (t .«thread_count» - 1) + lastCount t) op;
+  ops = set (t .ops) (maxOperations * (t .«thread_count» - 1) + lastCount t) op;
   counts = set (t .counts) (t .«thread_count» - 1) (lastCount t + 1);
   «thread_count» = t .«thread_count»;
 }
@@ -180,17 +178,17 @@ pub data Read : Type 0 where
 unfoldable pub objectRecord : ℕ → Table → Made → (Table → Read) → Read
 objectRecord at t m go =
     elim (eqb (t .«thread_count») 0)
-    [ true ↦ elim (ltb (t .«object_count») 16) [ true ↦ go (withObject t m) | false ↦ refused (TooMany at) ] | false ↦ refused (BadRecord at) ]
+    [ true ↦ elim (ltb (t .«object_count») maxObjects) [ true ↦ go (withObject t m) | false ↦ refused (TooMany at) ] | false ↦ refused (BadRecord at) ]
 
 unfoldable pub threadRecord : ℕ → Table → (Table → Read) → Read
-threadRecord at t go = elim (ltb (t .«thread_count») 6) [ true ↦ go (withThread t) | false ↦ refused (TooMany at) ]
+threadRecord at t go = elim (ltb (t .«thread_count») maxThreads) [ true ↦ go (withThread t) | false ↦ refused (TooMany at) ]
 
 unfoldable pub operationRecord : ℕ → Table → Op → (Table → Read) → Read
 operationRecord at t op go =
     elim (eqb (t .«thread_count») 0) [
       | true ↦ refused (BadRecord at)
       | false ↦
-          elim (ltb (lastCount t) 32)
+          elim (ltb (lastCount t) maxOperations)
           [ true ↦ elim (objectsFine (t .objects) op) [ true ↦ go (withOp t op) | false ↦ refused (BadObject at) ] | false ↦ refused (TooMany at) ]
     ]
 
@@ -220,4 +218,4 @@ readOf (accepted t) = record { taken = Accepted; table = t }
 
 -- the operations of a thread
 unfoldable pub opsOf : Table → ℕ → List Op
-opsOf t k = take (getD (t .counts) k 0) (drop (32 * k) (t .ops))
+opsOf t k = take (getD (t .counts) k 0) (drop (maxOperations * k) (t .ops))

@@ -4,24 +4,26 @@ use mathlib.Core.List.{List, [], _∷_, map}
 use Prim.Native.Nat.{ℕ, suc}
 use lib.Dec.{eqb, ltb}
 use lib.ListN.{getD, drop, replicate}
-use Rattle.clocks.specs.Clock.{joinOf, incOf, risen}
+use Rattle.clocks.specs.Clock.{maxThreads, joinOf, incOf, risen}
 use Rattle.clocks.specs.Pass.{passFrom}
 use Rattle.clocks.specs.declared.clock.Clock.{Clock}
 use Rattle.clocks.specs.declared.thread.ThreadId.{ThreadId}
 use Rattle.rules.specs.declared.object.ObjectId.{ObjectId}
-use Rattle.rules.specs.declared.object.Action.{Action}
 use Rattle.rules.specs.declared.object.Action.the-variants as action
 use Rattle.rules.specs.declared.object.Entry.{Entry}
 use Rattle.rules.specs.declared.object.Ending.{Ending}
 use Rattle.rules.specs.declared.object.Ending.the-variants as ending
 use Rattle.rules.specs.declared.mutex.Call.the-variants as mutex-call
-use Rattle.rules.specs.declared.condvar.Call.the-variants as condvar-call
+use Rattle.rules.specs.declared.condvar.Wait.{Wait}
+use Rattle.rules.specs.declared.condvar.Wait.the-variants.{On, Nowhere}
 use Rattle.rules.specs.declared.thread.State.the-variants as state
 use Rattle.rules.specs.declared.thread.Phase.{Phase}
 use Rattle.rules.specs.declared.thread.Phase.the-variants.{Nothing, Announced, Parked, Retaking}
+use Rattle.rules.specs.declared.thread.Answered.{Answered}
+use Rattle.rules.specs.declared.thread.Answered.the-variants.{Kept}
 use Rattle.rules.specs.declared.thread.Thread.{Thread}
 use Rattle.rules.specs.declared.table.Call.{Call}
-use Rattle.rules.specs.declared.table.Call.the-variants.{Mutex, RwLock, Condvar, Notify, Channel, Arc, Cell}
+use Rattle.rules.specs.declared.table.Call.the-variants.{Mutex}
 use Rattle.rules.specs.declared.table.Op.{Op}
 use Rattle.rules.specs.declared.table.Table.{Table}
 use Rattle.rules.specs.declared.answer.Answer.{Answer}
@@ -29,18 +31,16 @@ use Rattle.rules.specs.declared.answer.Answer.the-variants as answer
 use Rattle.rules.specs.declared.answer.Spot.{Spot}
 use Rattle.rules.specs.declared.world.Asked.{Asked}
 use Rattle.rules.specs.declared.world.Asked.the-variants as asked
-use Rattle.rules.specs.declared.world.Effect.{Effect}
 use Rattle.rules.specs.declared.world.World.{World}
 use Rattle.rules.specs.declared.world.Step.{Step}
 use Rattle.rules.specs.declared.world.Step.the-variants.{Refused, Done, Wants}
 use Rattle.rules.specs.declared.world.Decided.{Decided}
-use Rattle.rules.specs.Ground.{withState, withPhase, withPosition, withDependence, absent, threadAt, putThread, setRunnable, setBlocked, isRunnable, hasUnpark, isEnded}
-use Rattle.rules.specs.Object.{putMutex, putNotify, newEntry, entryAt, putEntry, announced, lastDependentAccess, setLastAccess, leaks}
+use Rattle.rules.specs.Ground.{withState, withPhase, withPosition, withDependence, absent, threadAt, putThread, setRunnable, setBlocked, isRunnable, hasUnpark, isEnded, answering}
+use Rattle.rules.specs.Object.{putNotify, newEntry, entryAt, putEntry, announced, leaks}
 use Rattle.rules.specs.Mutex as mutex
 use Rattle.rules.specs.Notify as notify
 use Rattle.rules.specs.Table.{noOp, opsOf}
-use Rattle.rules.specs.Effect.{effect}
-use Rattle.rules.specs.Announce.{isFree, actionOf, isDisabled, asks}
+use Rattle.rules.specs.Effect.{isFree, actionOf, isDisabled, asks, waitOf, lastDependentAccess, setLastAccess, Effect, effect}
 
 -- a world with one part changed
 abbrev pub withThreads : World → List Thread → World
@@ -115,20 +115,20 @@ unfoldable pub retake : ThreadId → ObjectId → Entry → List Thread → List
 retake t m e ts = putThread ts t (announced (Retaking (record { obj = m; action = action.Opaque })) (mutex.isLocked (e .mutex .lock)) (threadAt ts t))
 
 -- "its dependence clock joins that of the object's last dependent access, its own dependence count rises by one"
-unfoldable pub dependence : ThreadId → Action → Entry → Thread → Clock
-dependence t a e x = incOf (joinOf (x .dependence) (lastDependentAccess a e .version)) t
+unfoldable pub dependence : ThreadId → Call → Entry → Thread → Clock
+dependence t c e x = incOf (joinOf (x .dependence) (lastDependentAccess c e .version)) t
 
 -- "the result is recorded with the turn number as that object's last access, then the effect happens. .. Once in effect an operation is no
 -- longer announced"
 unfoldable pub operate : ThreadId → Op → ℕ → Entry → List Thread → Effect
 operate t op turn e ts =
-    let a = actionOf (op .call) in
-    let v = dependence t a e (threadAt ts t) in
-    effect (op .call) t (op .object) (setLastAccess a (record { «path_id» = turn; version = v }) e) (putThread ts t (withPhase (withDependence (threadAt ts t) v) Nothing))
+    let v = dependence t (op .call) e (threadAt ts t) in
+    effect (op .call) t (op .object) (setLastAccess (op .call) (record { «path_id» = turn; version = v }) e)
+    (putThread ts t (withPhase (withDependence (threadAt ts t) v) Nothing))
 
--- one more operation is done
-unfoldable pub advance : ThreadId → List Thread → List Thread
-advance t ts = putThread ts t (withPosition (threadAt ts t) (risen 255 (threadAt ts t .position)))
+-- one more operation is done, and its answer left
+unfoldable pub advance : ThreadId → Answered → List Thread → List Thread
+advance t n ts = putThread ts t (withPosition (answering n (threadAt ts t)) (risen 255 (threadAt ts t .position)))
 
 -- no operation is left
 unfoldable pub ended : ThreadId → List Thread → List Thread
@@ -143,8 +143,8 @@ park t m e ts =
 -- "wait queues, releases the mutex, parks": what it does to the mutex and the threads once it is queued
 unfoldable pub wait : ThreadId → ObjectId → Entry → List Thread → Effect
 wait t m e ts =
-    let r = mutex.releaseLock t m (e .mutex) ts in
-    record { ending = ending.Fine; entry = putMutex e (r .state); threads = park t m (putMutex e (r .state)) (r .threads) }
+    let r = effect (Mutex mutex-call.ReleaseLock) t m e ts in
+    record { ending = r .ending; answer = r .answer; entry = r .entry; threads = park t m (r .entry) (r .threads) }
 
 -- a world after an effect on an object
 abbrev pub settled : World → ObjectId → Effect → World
@@ -167,50 +167,36 @@ goOn t [] w = afterTurn (withThreads w (ended t (w .threads)))
 goOn t (op ∷ ops) w =
     let e = entryIn w (op .object) in
     let r = effect (op .call) t (op .object) e (w .threads) in
-    let next = goOn t ops (withThreads (settled w (op .object) r) (advance t (r .threads))) in
+    let next = goOn t ops (withThreads (settled w (op .object) r) (advance t (r .answer) (r .threads))) in
     elim (isFree (op .call)) [
       | true ↦ endingOf (r .ending) (spot t op w) w next
       | false ↦ elim (asks (op .call) e) [ true ↦ wants (withAsked w (asked.Thread t)) | false ↦ afterTurn (withThreads w (announceOp t op e (w .threads))) ]
     ]
 
--- what follows the effect of an announced operation: a wait goes on to its mutex and its turn ends
-unfoldable pub thereafter : Call → ThreadId → List Op → World → Decided
-thereafter (Mutex c) t ops w = goOn t ops (withThreads w (advance t (w .threads)))
-thereafter (RwLock c) t ops w = goOn t ops (withThreads w (advance t (w .threads)))
-thereafter (Condvar (condvar-call.Wait m)) t ops w = afterTurn (settled w m (wait t m (entryIn w m) (w .threads)))
-thereafter (Condvar condvar-call.NotifyOne) t ops w = goOn t ops (withThreads w (advance t (w .threads)))
-thereafter (Condvar condvar-call.NotifyAll) t ops w = goOn t ops (withThreads w (advance t (w .threads)))
-thereafter (Notify c) t ops w = goOn t ops (withThreads w (advance t (w .threads)))
-thereafter (Channel c) t ops w = goOn t ops (withThreads w (advance t (w .threads)))
-thereafter (Arc c) t ops w = goOn t ops (withThreads w (advance t (w .threads)))
-thereafter (Cell c) t ops w = goOn t ops (withThreads w (advance t (w .threads)))
+-- what follows the effect of an announced operation, which leaves the answer n: a wait goes on to its mutex and its turn ends
+unfoldable pub thereafter : Wait → ThreadId → Answered → List Op → World → Decided
+thereafter Nowhere t n ops w = goOn t ops (withThreads w (advance t n (w .threads)))
+thereafter (On m) t n ops w = afterTurn (settled w m (wait t m (entryIn w m) (w .threads)))
 
 -- "If that thread has announced an operation": its effect, and what follows
 unfoldable pub operation : ThreadId → Op → List Op → World → Decided
 operation t op ops w =
     let n = risen 65535 (w .turn) in
     let r = operate t op n (entryIn w (op .object)) (w .threads) in
-    let next = thereafter (op .call) t ops (settled (withTurn w n) (op .object) r) in
+    let next = thereafter (waitOf (op .call)) t (r .answer) ops (settled (withTurn w n) (op .object) r) in
     endingOf (r .ending) (spot t op w) w next
 
--- the mutex of a condvar wait
-abbrev pub mutexOf : Call → ObjectId
-mutexOf (Mutex c) = record { 0 = 255 }
-mutexOf (RwLock c) = record { 0 = 255 }
-mutexOf (Condvar (condvar-call.Wait m)) = m
-mutexOf (Condvar condvar-call.NotifyOne) = record { 0 = 255 }
-mutexOf (Condvar condvar-call.NotifyAll) = record { 0 = 255 }
-mutexOf (Notify c) = record { 0 = 255 }
-mutexOf (Channel c) = record { 0 = 255 }
-mutexOf (Arc c) = record { 0 = 255 }
-mutexOf (Cell c) = record { 0 = 255 }
+-- the mutex of a condvar wait; of another operation none
+abbrev pub mutexOf : Wait → ObjectId
+mutexOf Nowhere = record { 0 = 255 }
+mutexOf (On m) = m
 
 -- the turn of a thread, by its phase; `ops` are its operations that are not done
 unfoldable pub turnOf : Phase → ThreadId → List Op → World → Decided
 turnOf Nothing t ops w = goOn t ops (withTurn w (risen 65535 (w .turn)))
 turnOf (Announced p) t ops w = operation t (getD ops 0 noOp) (drop 1 ops) w
 turnOf Parked t ops w =
-    let m = mutexOf (getD ops 0 noOp .call) in
+    let m = mutexOf (waitOf (getD ops 0 noOp .call)) in
     afterTurn (withThreads (withTurn w (risen 65535 (w .turn))) (retake t m (entryIn w m) (w .threads)))
 turnOf (Retaking p) t ops w = operation t (record { call = Mutex mutex-call.AcquireLock; object = p .obj }) (drop 1 ops) w
 
@@ -226,7 +212,7 @@ begin table w t = elim (isRunnable (threadIn w t .state)) [ true ↦ turnOf (thr
 unfoldable pub spurious : ThreadId → Op → World → World
 spurious t op w =
     let e = entryIn w (op .object) in
-    withObjects (withThreads w (advance t (putThread (w .threads) t (setRunnable (threadIn w t))))) (putEntry (w .objects) (op .object) (putNotify e (notify.spur (e .notify))))
+    withObjects (withThreads w (advance t Kept (putThread (w .threads) t (setRunnable (threadIn w t))))) (putEntry (w .objects) (op .object) (putNotify e (notify.spur (e .notify))))
 
 -- "first takes a decision, 0 or 1 (else 23)"
 unfoldable pub question : ThreadId → Op → ℕ → World → Decided
@@ -251,7 +237,7 @@ startThread n k t = elim (ltb k n) [ true ↦ withState t state.Runnable | false
 
 unfoldable pub start : Table → World
 start table = record {
-  threads = passFrom (startThread (table .«thread_count»)) 0 (replicate 6 absent);
+  threads = passFrom (startThread (table .«thread_count»)) 0 (replicate maxThreads absent);
   objects = map newEntry (table .objects);
   turn = 0;
   asked = asked.Nobody;

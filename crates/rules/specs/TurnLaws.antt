@@ -8,12 +8,12 @@ use Rattle.clocks.specs.declared.thread.ThreadId.{ThreadId}
 use Rattle.rules.specs.declared.object.Entry.{Entry}
 use Rattle.rules.specs.declared.object.Ending.{Ending}
 use Rattle.rules.specs.declared.object.Ending.the-variants as ending
-use Rattle.rules.specs.declared.condvar.Call.the-variants as condvar-call
+use Rattle.rules.specs.declared.condvar.Wait.{Wait}
+use Rattle.rules.specs.declared.condvar.Wait.the-variants.{On, Nowhere}
+use Rattle.rules.specs.declared.thread.Answered.{Answered}
 use Rattle.rules.specs.declared.thread.Thread.{Thread}
 use Rattle.rules.specs.declared.thread.Phase.{Phase}
 use Rattle.rules.specs.declared.thread.Phase.the-variants.{Nothing, Announced, Parked, Retaking}
-use Rattle.rules.specs.declared.table.Call.{Call}
-use Rattle.rules.specs.declared.table.Call.the-variants.{Mutex, RwLock, Condvar, Notify, Channel, Arc, Cell}
 use Rattle.rules.specs.declared.table.Op.{Op}
 use Rattle.rules.specs.declared.table.Table.{Table}
 use Rattle.rules.specs.declared.answer.Answer.{Answer}
@@ -28,7 +28,7 @@ use Rattle.rules.specs.Ground.{isRunnable}
 use Rattle.rules.specs.Object.{leaks}
 use Rattle.rules.specs.Answer.{numbersOf}
 use Rattle.rules.specs.TableLaws.{by-test}
-use Rattle.rules.specs.Announce.{isFree, asks}
+use Rattle.rules.specs.Effect.{isFree, asks, waitOf}
 use Rattle.rules.specs.Turn.{allEnded, anyRunnable, leakCheck, afterStep, endingOf, goOn, thereafter, operation, turnOf, begin, question, decideAt, decide, entryIn, threadIn}
 
 -- what a turn comes to: it is not refused, and a verdict's number is 0 to 5
@@ -63,21 +63,14 @@ go-said t (op ∷ ops) w =
     by-test Fine (isFree (op .call)) (λ b. ending-said _ _ w _ (go-said t ops _))
     (λ b. by-test Fine (asks (op .call) (entryIn w (op .object))) (λ q. tt) (λ q. after-said _ _))
 
-then-said : (c : Call) (t : ThreadId) (ops : List Op) (w : World) → Fine (thereafter c t ops w)
+then-said : (m : Wait) (t : ThreadId) (n : Answered) (ops : List Op) (w : World) → Fine (thereafter m t n ops w)
 unfolding thereafter
-then-said (Mutex c) t ops w = go-said t ops _
-then-said (RwLock c) t ops w = go-said t ops _
-then-said (Condvar (condvar-call.Wait m)) t ops w = after-said _ _
-then-said (Condvar condvar-call.NotifyOne) t ops w = go-said t ops _
-then-said (Condvar condvar-call.NotifyAll) t ops w = go-said t ops _
-then-said (Notify c) t ops w = go-said t ops _
-then-said (Channel c) t ops w = go-said t ops _
-then-said (Arc c) t ops w = go-said t ops _
-then-said (Cell c) t ops w = go-said t ops _
+then-said Nowhere t n ops w = go-said t ops _
+then-said (On m) t n ops w = after-said _ _
 
 operation-said : (t : ThreadId) (op : Op) (ops : List Op) (w : World) → Fine (operation t op ops w)
 unfolding operation
-operation-said t op ops w = ending-said _ _ w _ (then-said (op .call) t ops _)
+operation-said t op ops w = ending-said _ _ w _ (then-said (waitOf (op .call)) t _ ops _)
 
 pub turn-said : (p : Phase) (t : ThreadId) (ops : List Op) (w : World) → Fine (turnOf p t ops w)
 unfolding turnOf

@@ -11,9 +11,10 @@ use Rattle.lists.specs.Next as next
 use Rattle.lists.specs.Walk as walk
 use Rattle.rules.specs.declared.answer.Answer.{Answer}
 use Rattle.rules.specs.declared.answer.Answer.the-variants.{NoLaterList, ListWritten, NotAllowed, Surplus, TooShort, NotComplete}
-use Rattle.rules.specs.declared.condvar.Call.the-variants as condvar
-use Rattle.rules.specs.declared.table.Call.{Call}
-use Rattle.rules.specs.declared.table.Call.the-variants.{Mutex, RwLock, Condvar, Notify, Channel, Arc, Cell}
+use Rattle.rules.specs.declared.condvar.Wait.{Wait}
+use Rattle.rules.specs.declared.condvar.Wait.the-variants.{On, Nowhere}
+use Rattle.rules.specs.Effect.{waitOf}
+use Rattle.clocks.specs.Clock.{maxThreads}
 use Rattle.rules.specs.declared.table.Op.{Op}
 use Rattle.rules.specs.declared.table.Table.{Table}
 use Rattle.rules.specs.declared.thread.Phase.{Phase}
@@ -28,25 +29,18 @@ use Rattle.rules.specs.Answer.{numbersOf}
 use Rattle.rules.specs.Turn.{start, opsLeft}
 use Rattle.rules.specs.Judge.{Verdict, step, Given, over, untouched}
 
--- decisions name a thread or answer a question: they are below 6
+-- decisions name a thread or answer a question: they are below the number of threads
 abbrev pub decisions : ℕ
-decisions = 6
+decisions = maxThreads
 
 -- the decision that an announced operation has behind it; a condvar wait has parking and retaking still before it, and none is taken off
-unfoldable pub waitsFor : Call → ℕ
-waitsFor (Mutex c) = 1
-waitsFor (RwLock c) = 1
-waitsFor (Condvar (condvar.Wait m)) = 0
-waitsFor (Condvar condvar.NotifyOne) = 1
-waitsFor (Condvar condvar.NotifyAll) = 1
-waitsFor (Notify c) = 1
-waitsFor (Channel c) = 1
-waitsFor (Arc c) = 1
-waitsFor (Cell c) = 1
+unfoldable pub waitsFor : Wait → ℕ
+waitsFor Nowhere = 1
+waitsFor (On m) = 0
 
 unfoldable pub leftIn : Phase → List Op → ℕ
 leftIn Nothing ops = 3 * length ops + 1
-leftIn (Announced p) ops = 3 * length ops - waitsFor (getD ops 0 noOp .call)
+leftIn (Announced p) ops = 3 * length ops - waitsFor (waitOf (getD ops 0 noOp .call))
 leftIn Parked ops = 3 * length ops - 1
 leftIn (Retaking p) ops = 3 * length ops - 2
 

@@ -1,7 +1,10 @@
 // loom's rt/arc.rs.
 use crate::access::Access;
+use crate::object::Ending;
+use crate::thread::Answered;
 use crate::thread::Thread;
 use clocks::Clock;
+use clocks::THREADS;
 
 pub enum Call {
     RefInc,
@@ -31,9 +34,9 @@ pub struct State {
     pub last_ref_modification: RefModify,
 }
 
-pub struct Counted {
-    pub done: bool,
-    pub answer: u16,
+pub struct Effect {
+    pub ending: Ending,
+    pub answer: Answered,
     pub state: State,
-    pub threads: [Thread; 6],
+    pub threads: [Thread; THREADS],
 }

@@ -1,7 +1,9 @@
 // loom's rt/cell.rs.
 use crate::object::Ending;
+use crate::thread::Answered;
 use crate::thread::Thread;
 use clocks::Clock;
+use clocks::THREADS;
 
 pub enum Call {
     StartRead,
@@ -17,8 +19,9 @@ pub struct State {
     pub write_access: Clock,
 }
 
-pub struct Accessed {
+pub struct Effect {
     pub ending: Ending,
+    pub answer: Answered,
     pub state: State,
-    pub thread: Thread,
+    pub threads: [Thread; THREADS],
 }

@@ -1,13 +1,22 @@
 // loom's rt/condvar.rs. The waiters stand oldest first; a place that none has is filled with 255.
 use crate::access::Access;
+use crate::object::Ending;
 use crate::object::ObjectId;
+use crate::thread::Answered;
 use crate::thread::Thread;
+use clocks::THREADS;
 use clocks::ThreadId;
 
 pub enum Call {
     Wait(ObjectId),
     NotifyOne,
     NotifyAll,
+}
+
+// The mutex of a wait, and of every other operation none.
+pub enum Wait {
+    On(ObjectId),
+    Nowhere,
 }
 
 pub const WAITERS: usize = 8;
@@ -18,12 +27,9 @@ pub struct State {
     pub waiters: [ThreadId; WAITERS],
 }
 
-pub struct Queued {
-    pub done: bool,
+pub struct Effect {
+    pub ending: Ending,
+    pub answer: Answered,
     pub state: State,
-}
-
-pub struct Notified {
-    pub state: State,
-    pub threads: [Thread; 6],
+    pub threads: [Thread; THREADS],
 }

@@ -1,7 +1,10 @@
 // loom's rt/mpsc.rs. The messages' clocks stand oldest first; a place that no message has holds the zero clock.
 use crate::access::Access;
+use crate::object::Ending;
+use crate::thread::Answered;
 use crate::thread::Thread;
 use clocks::Clock;
+use clocks::THREADS;
 
 pub enum Call {
     Send,
@@ -23,8 +26,9 @@ pub struct State {
     pub receiver_synchronize: [Clock; MESSAGES],
 }
 
-pub struct Passed {
-    pub done: bool,
+pub struct Effect {
+    pub ending: Ending,
+    pub answer: Answered,
     pub state: State,
-    pub threads: [Thread; 6],
+    pub threads: [Thread; THREADS],
 }

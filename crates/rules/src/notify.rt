@@ -1,7 +1,10 @@
 // loom's rt/notify.rs.
 use crate::access::Access;
+use crate::object::Ending;
+use crate::thread::Answered;
 use crate::thread::Thread;
 use clocks::Clock;
+use clocks::THREADS;
 
 pub enum Call {
     Notify,
@@ -16,13 +19,9 @@ pub struct State {
     pub synchronize: Clock,
 }
 
-pub struct Notified {
+pub struct Effect {
+    pub ending: Ending,
+    pub answer: Answered,
     pub state: State,
-    pub threads: [Thread; 6],
-}
-
-pub struct Waited {
-    pub done: bool,
-    pub state: State,
-    pub threads: [Thread; 6],
+    pub threads: [Thread; THREADS],
 }

@@ -1,7 +1,10 @@
 // loom's rt/rwlock.rs. The readers are a set: a mask with a bit for each thread.
 use crate::access::Access;
+use crate::object::Ending;
+use crate::thread::Answered;
 use crate::thread::Thread;
 use clocks::Clock;
+use clocks::THREADS;
 use clocks::ThreadId;
 
 pub enum Call {
@@ -30,14 +33,9 @@ pub struct State {
     pub synchronize: Clock,
 }
 
-pub struct Acquired {
-    pub taken: bool,
+pub struct Effect {
+    pub ending: Ending,
+    pub answer: Answered,
     pub state: State,
-    pub threads: [Thread; 6],
-}
-
-pub struct Released {
-    pub done: bool,
-    pub state: State,
-    pub threads: [Thread; 6],
+    pub threads: [Thread; THREADS],
 }

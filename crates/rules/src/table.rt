@@ -7,8 +7,10 @@ use crate::mpsc;
 use crate::mutex;
 use crate::notify;
 use crate::object::Kind;
+use crate::object::OBJECTS;
 use crate::object::ObjectId;
 use crate::rwlock;
+use clocks::THREADS;
 
 pub enum Call {
     Mutex(mutex::Call),
@@ -32,12 +34,16 @@ pub struct Made {
     pub spurious: bool,
 }
 
-// The operations of thread t are ops[32 * t ..], counts[t] of them.
+// As many operations as a thread may have, and the places for those of all threads.
+pub const OPERATIONS: usize = 32;
+pub const PLACES: usize = OPERATIONS * THREADS;
+
+// The operations of thread t are ops[OPERATIONS * t ..], counts[t] of them.
 pub struct Table {
-    pub objects: [Made; 16],
+    pub objects: [Made; OBJECTS],
     pub object_count: u8,
-    pub ops: [Op; 192],
-    pub counts: [u8; 6],
+    pub ops: [Op; PLACES],
+    pub counts: [u8; THREADS],
     pub thread_count: u8,
 }
 

@@ -28,6 +28,12 @@ pub struct Thread {
     pub dependence: Clock,
 }
 
+// What an operation leaves as its thread's last answer: a number, or the one before.
+pub enum Answered {
+    Kept,
+    Left(u16),
+}
+
 // How a pass changes each other thread that is announced on an object.
 pub enum Change {
     Wake,

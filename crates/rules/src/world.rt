@@ -1,8 +1,9 @@
 // The state of a run, and what a decision comes to.
 use crate::answer::Answer;
-use crate::object::Ending;
 use crate::object::Entry;
+use crate::object::OBJECTS;
 use crate::thread::Thread;
+use clocks::THREADS;
 use clocks::ThreadId;
 
 // The thread that is asked whether its wait ends spuriously.
@@ -12,17 +13,10 @@ pub enum Asked {
 }
 
 pub struct World {
-    pub threads: [Thread; 6],
-    pub objects: [Entry; 16],
+    pub threads: [Thread; THREADS],
+    pub objects: [Entry; OBJECTS],
     pub turn: u16,
     pub asked: Asked,
-}
-
-// What an operation does to its object and to the threads.
-pub struct Effect {
-    pub ending: Ending,
-    pub entry: Entry,
-    pub threads: [Thread; 6],
 }
 
 pub enum Step {
