@@ -2,7 +2,7 @@
 use mathlib.Core.Bool.{Bool, true, false, _&&_, _||_}
 use mathlib.Core.List.{List, [], _∷_, map}
 use Prim.Native.Nat.{ℕ, suc}
-use lib.Dec.{eqb, ltb}
+use lib.Dec.{eqb, ltb, leb}
 use lib.ListN.{getD, drop, replicate}
 use Rattle.clocks.specs.Clock.{maxThreads, joinOf, incOf, risen}
 use Rattle.clocks.specs.Pass.{passFrom}
@@ -226,6 +226,11 @@ question t op d w =
 unfoldable pub decideAt : Asked → Table → World → ℕ → Decided
 decideAt asked.Nobody table w d = begin table w (record { 0 = d })
 decideAt (asked.Thread t) table w d = question t (getD (opsLeft table w t) 0 noOp) d w
+
+-- the decisions that are not 23: "naming a runnable thread", and "0 or 1"
+abbrev pub isAllowed : Asked → List Thread → ℕ → Bool
+isAllowed asked.Nobody ts d = isRunnable (threadAt ts (record { 0 = d }) .state)
+isAllowed (asked.Thread t) ts d = leb d 1
 
 -- one decision
 unfoldable pub decide : Table → World → ℕ → Decided
