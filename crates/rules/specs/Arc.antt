@@ -96,7 +96,9 @@ doing call.RefDec by s = elim (eqb (s .«ref_cnt») 0) [ true ↦ fails Misuse s
 doing call.GetMut by s = elim (eqb (s .«ref_cnt») 0) [ true ↦ fails Misuse s | false ↦ inspecting (flag (eqb (s .«ref_cnt») 1)) s ]
 doing call.StrongCount by s = elim (eqb (s .«ref_cnt») 0) [ true ↦ fails Misuse s | false ↦ inspecting (s .«ref_cnt») s ]
 
+-- the effect: what it does, with its touches done
+abbrev pub left : ThreadId → Does State → List Thread → Effect
+left active d ts = record { ending = d .ending; answer = d .answer; state = d .state; threads = touched active (d .touches) ts }
+
 unfoldable pub effect : Call → ThreadId → State → List Thread → Effect
-effect c active s ts =
-    let d = doing c (threadAt ts active .clock) s in
-    record { ending = d .ending; answer = d .answer; state = d .state; threads = touched active (d .touches) ts }
+effect c active s ts = left active (doing c (threadAt ts active .clock) s) ts

@@ -69,7 +69,9 @@ doing StartWrite active by s =
     accessing (isMisuse StartWrite s) (trackWrite c s) s (written true c s) (raises ∷ [])
 doing EndWrite active by s = accessing (isMisuse EndWrite s) (trackWrite by s) s (written false by s) []
 
+-- the effect: what it does, with its touches done
+abbrev pub left : ThreadId → Does State → List Thread → Effect
+left active d ts = record { ending = d .ending; answer = d .answer; state = d .state; threads = touched active (d .touches) ts }
+
 unfoldable pub effect : Call → ThreadId → State → List Thread → Effect
-effect c active s ts =
-    let d = doing c active (threadAt ts active .clock) s in
-    record { ending = d .ending; answer = d .answer; state = d .state; threads = touched active (d .touches) ts }
+effect c active s ts = left active (doing c active (threadAt ts active .clock) s) ts

@@ -53,6 +53,9 @@ doing call.NotifyOne active s =
     ]
 doing call.NotifyAll active s = does Kept (withWaiters s 0 (replicate maxWaiters nobody)) (map unparks (take (s .count) (s .waiters)))
 
+-- the effect: what it does, with its touches done
+abbrev pub left : ThreadId → Does State → List Thread → Effect
+left active d ts = record { ending = d .ending; answer = d .answer; state = d .state; threads = touched active (d .touches) ts }
+
 unfoldable pub effect : Call → ThreadId → State → List Thread → Effect
-effect c active s ts =
-    let d = doing c active s in record { ending = d .ending; answer = d .answer; state = d .state; threads = touched active (d .touches) ts }
+effect c active s ts = left active (doing c active s) ts

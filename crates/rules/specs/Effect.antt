@@ -114,7 +114,8 @@ pub record Effect : Type 0 where
   pub entry : Entry
   pub threads : List Thread
 
+abbrev pub left : ThreadId → Does Entry → List Thread → Effect
+left active d ts = record { ending = d .ending; answer = d .answer; entry = d .state; threads = touched active (d .touches) ts }
+
 unfoldable pub effect : Call → ThreadId → ObjectId → Entry → List Thread → Effect
-effect c active o e ts =
-    let d = doing c active o (threadAt ts active .clock) e in
-    record { ending = d .ending; answer = d .answer; entry = d .state; threads = touched active (d .touches) ts }
+effect c active o e ts = left active (doing c active o (threadAt ts active .clock) e) ts

@@ -93,7 +93,9 @@ unfoldable pub doing : Call → ObjectId → Clock → State → Does State
 doing Send o by s = elim (ltb (s .«msg_cnt») maxMessages) [ true ↦ sending o (stored by (s .«sender_synchronize»)) s | false ↦ fails NoRoom s ]
 doing Recv o by s = elim (isEmpty s) [ true ↦ fails Misuse s | false ↦ receiving o s ]
 
+-- the effect: what it does, with its touches done
+abbrev pub left : ThreadId → Does State → List Thread → Effect
+left active d ts = record { ending = d .ending; answer = d .answer; state = d .state; threads = touched active (d .touches) ts }
+
 unfoldable pub effect : Call → ThreadId → ObjectId → State → List Thread → Effect
-effect c active o s ts =
-    let d = doing c o (threadAt ts active .clock) s in
-    record { ending = d .ending; answer = d .answer; state = d .state; threads = touched active (d .touches) ts }
+effect c active o s ts = left active (doing c o (threadAt ts active .clock) s) ts

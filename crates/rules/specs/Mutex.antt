@@ -60,7 +60,9 @@ doing AcquireLock active o by s = elim (isLocked (s .lock)) [ true ↦ fails Mis
 doing TryAcquireLock active o by s = elim (isLocked (s .lock)) [ true ↦ does (Left 0) s [] | false ↦ taking active o (Left 1) s ]
 doing ReleaseLock active o by s = releasing o by s
 
+-- the effect: what it does, with its touches done
+abbrev pub left : ThreadId → Does State → List Thread → Effect
+left active d ts = record { ending = d .ending; answer = d .answer; state = d .state; threads = touched active (d .touches) ts }
+
 unfoldable pub effect : Call → ThreadId → ObjectId → State → List Thread → Effect
-effect c active o s ts =
-    let d = doing c active o (threadAt ts active .clock) s in
-    record { ending = d .ending; answer = d .answer; state = d .state; threads = touched active (d .touches) ts }
+effect c active o s ts = left active (doing c active o (threadAt ts active .clock) s) ts

@@ -52,7 +52,9 @@ unfoldable pub doing : Call → ObjectId → Clock → State → Does State
 doing Notify o by s = does Kept (withNotified true (stored by (s .synchronize)) s) (passes Unpark o ∷ [])
 doing Wait o by s = elim (s .notified) [ true ↦ does Kept (withNotified false (s .synchronize) s) (loads (s .synchronize) ∷ []) | false ↦ fails Misuse s ]
 
+-- the effect: what it does, with its touches done
+abbrev pub left : ThreadId → Does State → List Thread → Effect
+left active d ts = record { ending = d .ending; answer = d .answer; state = d .state; threads = touched active (d .touches) ts }
+
 unfoldable pub effect : Call → ThreadId → ObjectId → State → List Thread → Effect
-effect c active o s ts =
-    let d = doing c o (threadAt ts active .clock) s in
-    record { ending = d .ending; answer = d .answer; state = d .state; threads = touched active (d .touches) ts }
+effect c active o s ts = left active (doing c o (threadAt ts active .clock) s) ts

@@ -113,7 +113,9 @@ doing TryAcquireWriteLock active o by s = elim (s .lock) [ Free ↦ writing acti
 doing ReleaseReadLock active o by s = elim (s .lock) [ Free ↦ fails Misuse s | Read mask ↦ leaving o by (withoutReader mask active) s | Write t ↦ fails Misuse s ]
 doing ReleaseWriteLock active o by s = freeing o by s
 
+-- the effect: what it does, with its touches done
+abbrev pub left : ThreadId → Does State → List Thread → Effect
+left active d ts = record { ending = d .ending; answer = d .answer; state = d .state; threads = touched active (d .touches) ts }
+
 unfoldable pub effect : Call → ThreadId → ObjectId → State → List Thread → Effect
-effect c active o s ts =
-    let d = doing c active o (threadAt ts active .clock) s in
-    record { ending = d .ending; answer = d .answer; state = d .state; threads = touched active (d .touches) ts }
+effect c active o s ts = left active (doing c active o (threadAt ts active .clock) s) ts

@@ -36,6 +36,7 @@ pub struct Made {
 
 // As many operations as a thread may have, and the places for those of all threads.
 pub const OPERATIONS: usize = 32;
+
 pub const PLACES: usize = OPERATIONS * THREADS;
 
 // The operations of thread t are ops[OPERATIONS * t ..], counts[t] of them.
