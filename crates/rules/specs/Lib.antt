@@ -25,3 +25,5 @@ pub mod Demand
 pub mod TurnLaws
 pub mod JudgeLaws
 pub mod AfterLaws
+pub mod TouchLaws
+pub mod NoteLaws
