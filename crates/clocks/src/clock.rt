@@ -24,7 +24,7 @@ fn larger(x: u8, y: u8) -> u8
 }
 
 // One more, unless the count is at its type's end.
-fn one_more(n: u8) -> u8
+pub fn one_more(n: u8) -> u8
     ensures { λ r. ⌜ r ≡ risen 255 n ⌝ }
 {
     if n < 255 { n + 1 } else { n }

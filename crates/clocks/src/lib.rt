@@ -5,4 +5,5 @@ mod thread;
 pub use clock::Ahead;
 pub use clock::Clock;
 pub use clock::THREADS;
+pub use clock::one_more;
 pub use thread::ThreadId;

@@ -5,7 +5,7 @@ use mathlib.Core.List.{List, map}
 use Prim.Native.Nat.{ℕ, zero, suc, _+_, _≤_, _<_}
 use native.Mathlib.Omega.{arith}
 use lib.ListN.{length, getD, replicate, length-replicate, length-map, List·getD-map}
-use lib.Seq.{ext-getD, set-getD}
+use lib.Seq.{ext-getD, set-getD, sets}
 use borrow.Author.Tests.{le-leb, lt-leb}
 use Rattle.clocks.specs.Pass.{passFrom, passed, passed-next, turned, pass-length, pass-at}
 use Rattle.lists.specs.Judge.{Judged, notAllowed, surplus, unfinished, verdict, judge}
@@ -17,15 +17,18 @@ use Rattle.rules.specs.declared.table.Table.{Table}
 use Rattle.rules.specs.declared.table.Taken.the-variants.{Accepted, Refused}
 use Rattle.rules.specs.declared.table.TableRead.{TableRead}
 use Rattle.rules.specs.declared.answer.Answer.{Answer}
-use Rattle.rules.specs.declared.answer.Answer.the-variants.{More, TooShort}
+use Rattle.rules.specs.declared.answer.Answer.the-variants.{More, NotAllowed, Surplus, TooShort}
 use Rattle.rules.specs.declared.world.World.{World}
+use Rattle.rules.specs.Limits.{maxObjects}
 use Rattle.rules.specs.Object.{noObject, newEntry}
-use Rattle.rules.specs.Sheet.{sheetLength}
+use Rattle.rules.specs.Sheet.{sheetOf, sheetLength}
 use Rattle.rules.specs.SheetLaws.{sheet-over}
-use Rattle.rules.specs.Judge.{Verdict, step, untouched, shown, judgeTable, judgeOf}
+use Rattle.rules.specs.Judge.{Verdict, step, Given, untouched, shown, judgeTable, judgeOf}
 use Rattle.rules.specs.Table.{Read, refused, accepted, readTable, readOf}
 use Rattle.rules.specs.Turn.{start}
-use Rattle.turns.specs.Run.{ranOf, showing}
+use Rattle.turns_run.specs.declared.run.End.{End}
+use Rattle.turns_run.specs.declared.run.End.the-variants as end
+use Rattle.turns_run.specs.Run.{ranOf}
 
 -- the objects are made in a pass over the store
 abbrev pub madeAt : List Made → ℕ → Entry → Entry
@@ -64,13 +67,29 @@ filled x zero k = refl
 filled x (suc n) zero = refl
 filled x (suc n) (suc k) = filled x n k
 
-pub left-out : (ms : List Made) (k : ℕ) (x : Entry) (z : List Entry) → x ≡ newEntry noObject → k < 16 → z ≡ passed (madeAt ms) k 0 (replicate 16 x)
-    → isMade (getD ms k noObject .kind) (getD ms k noObject .spurious) ≡ false → z ≡ passed (madeAt ms) (k + 1) 0 (replicate 16 x)
+pub left-out : (ms : List Made) (k : ℕ) (x : Entry) (z : List Entry) → x ≡ newEntry noObject → k < maxObjects → z ≡ passed (madeAt ms) k 0 (replicate maxObjects x)
+    → isMade (getD ms k noObject .kind) (getD ms k noObject .spurious) ≡ false → z ≡ passed (madeAt ms) (k + 1) 0 (replicate maxObjects x)
 left-out ms k x z e l h f =
     let m : Made = getD ms k noObject in
-    let within : k < length (replicate 16 x) = omega (arith, l, length-replicate 16 x) in
-    let same : getD z k x ≡ x = ap (λ (es : List Entry). getD es k x) h ∙ passed-next (madeAt ms) k 0 (replicate 16 x) x ∙ filled x 16 k in
-    sym (set-getD z k x) ∙ turned (madeAt ms) k (replicate 16 x) x z (getD z k x) within h (same ∙ e ∙ ap newEntry (not-made (m .kind) (m .spurious) f))
+    let within : k < length (replicate maxObjects x) = omega (arith, l, length-replicate maxObjects x) in
+    let same : getD z k x ≡ x = ap (λ (es : List Entry). getD es k x) h ∙ passed-next (madeAt ms) k 0 (replicate maxObjects x) x ∙ filled x maxObjects k in
+    sym (set-getD z k x) ∙ turned (madeAt ms) k (replicate maxObjects x) x z (getD z k x) within h (same ∙ e ∙ ap newEntry (not-made (m .kind) (m .spurious) f))
+
+-- what a run shows: its answer, and the sheet of the world it hands back, unless it was refused
+abbrev pub isShown : End → Bool
+isShown (end.NotAllowed i) = false
+isShown (end.Surplus i) = false
+isShown end.Unfinished = true
+isShown (end.Verdict a) = true
+
+abbrev pub answerOf : End → Answer
+answerOf (end.NotAllowed i) = NotAllowed i
+answerOf (end.Surplus i) = Surplus i
+answerOf end.Unfinished = More
+answerOf (end.Verdict a) = a
+
+unfoldable pub showing : Table → End → World → List ℕ → Given
+showing table e w buffer = record { answer = answerOf e; buffer = elim (isShown e) [ true ↦ sets buffer 0 (sheetOf table w) | false ↦ buffer ] }
 
 -- where the buffer has room for the sheet, what a run shows is what its judgement shows
 pub shows : (table : Table) (buffer : List ℕ) → sheetLength table ≤ length buffer

@@ -2,19 +2,16 @@
 ghost use mathlib.Core.Path.{_≡_};
 ghost use mathlib.Core.List.{map};
 ghost use lib.ListN.{replicate};
+ghost use Rattle.clocks.specs.Clock.{maxThreads};
 ghost use Rattle.clocks.specs.Pass.{passFrom};
 ghost use Rattle.rules.specs.Ground.{absent};
 ghost use Rattle.rules.specs.Object.{newEntry};
 ghost use Rattle.rules.specs.Turn.{startThread, start};
 ghost use Rattle.rules.specs.Judge.{judgeOf};
-ghost use Rattle.turns.specs.Run.{isShown, answerOf, showing};
-ghost use Rattle.turns.specs.Start.{isMade};
-use crate::run::End;
-use crate::run::run;
+ghost use Rattle.turns.specs.Start.{isMade, isShown, answerOf, showing};
 use clocks::THREADS;
-use objects::object;
-use objects::thread::absent;
-use objects::thread::with_state;
+use objects_threads::thread::absent;
+use objects_threads::thread::with_state;
 use rules::answer::Answer;
 use rules::object::Entry;
 use rules::object::Kind;
@@ -26,9 +23,11 @@ use rules::thread::State;
 use rules::thread::Thread;
 use rules::world::Asked;
 use rules::world::World;
-use tables::sheet::sheet_length;
-use tables::sheet::write_sheet;
-use tables::table::read_table;
+use turns_run::End;
+use turns_run::run;
+use turns_sheet::sheet_length;
+use turns_sheet::write_sheet;
+use turns_table::read_table;
 
 // The first n threads are there, and stand at the start.
 fn start_thread(n: u8, k: usize, t: Thread) -> Thread
@@ -42,7 +41,7 @@ fn start_thread(n: u8, k: usize, t: Thread) -> Thread
 }
 
 fn start_threads(n: u8) -> [Thread; THREADS]
-    ensures { λ r. ⌜ r ≡ passFrom (startThread n) 0 (replicate 6 absent) ⌝ }
+    ensures { λ r. ⌜ r ≡ passFrom (startThread n) 0 (replicate maxThreads absent) ⌝ }
 {
     let nobody = absent();
     let mut out = [nobody; THREADS];
@@ -72,13 +71,13 @@ fn is_made(kind: Kind, spurious: bool) -> bool
 fn start_objects(objects: [Made; OBJECTS]) -> [Entry; OBJECTS]
     ensures { λ r. ⌜ r ≡ map newEntry objects ⌝ }
 {
-    let nothing = object::absent();
+    let nothing = objects::absent();
     let mut out = [nothing; OBJECTS];
     for k in 0..OBJECTS {
         let made = objects[k];
         let kind = made.kind;
         if is_made(kind, made.spurious) {
-            out[k] = object::new_entry(made);
+            out[k] = objects::new_entry(made);
         }
     }
     out

@@ -1,7 +1,5 @@
-// The judge: decisions are taken one at a time, and a list is judged.
-mod after;
-pub mod judge;
-mod loud;
-mod quiet;
-pub mod run;
-mod step;
+// A table and a list are judged.
+mod judge;
+
+pub use judge::judge;
+pub use judge::start;

@@ -1,0 +1,4 @@
+pub mod Run
+pub mod RunLaws
+pub mod Running
+pub mod InEffect
