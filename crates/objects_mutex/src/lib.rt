@@ -1,0 +1,178 @@
+// loom's rt/mutex.rs.
+ghost use mathlib.Core.Path.{_≡_};
+ghost use Rattle.rules.specs.declared.mutex.Call.the-variants.{AcquireLock, TryAcquireLock, ReleaseLock};
+ghost use Rattle.rules.specs.Mutex.{new, isLocked, isFree, isDisabled, setLastAccess, taking, left, effect};
+use clocks::Clock;
+use clocks::THREADS;
+use clocks::ThreadId;
+use objects_threads::access;
+use objects_threads::thread::others;
+use objects_threads::thread::sync_load;
+use objects_threads::thread::sync_store;
+use rules::access::Access;
+use rules::mutex::Call;
+use rules::mutex::Effect;
+use rules::mutex::Lock;
+use rules::mutex::State;
+use rules::object::Ending;
+use rules::object::ObjectId;
+use rules::thread::Answered;
+use rules::thread::Change;
+use rules::thread::Thread;
+
+pub fn new() -> State
+    ensures { λ r. ⌜ r ≡ new ⌝ }
+{
+    State {
+        lock: Lock::Free,
+        last_access: access::new(),
+        synchronize: Clock::new(),
+    }
+}
+
+fn is_locked(lock: Lock) -> bool
+    ensures { λ r. ⌜ r ≡ isLocked lock ⌝ }
+{
+    match lock {
+        Lock::Free => false,
+        Lock::Held(_) => true,
+    }
+}
+
+// A release needs no announcement.
+pub fn is_free(call: Call) -> bool
+    ensures { λ r. ⌜ r ≡ isFree call ⌝ }
+{
+    match call {
+        Call::AcquireLock => false,
+        Call::TryAcquireLock => false, // It is announced, and never blocked then.
+        Call::ReleaseLock => true,
+    }
+}
+
+// An announced acquire blocks if the mutex is held.
+pub fn is_disabled(call: Call, state: State) -> bool
+    ensures { λ r. ⌜ r ≡ isDisabled call state ⌝ }
+{
+    let lock = state.lock;
+    match call {
+        Call::AcquireLock => is_locked(lock),
+        Call::TryAcquireLock => false,
+        Call::ReleaseLock => false,
+    }
+}
+
+pub fn set_last_access(access: Access, state: State) -> State
+    ensures { λ r. ⌜ r ≡ setLastAccess access state ⌝ }
+{
+    let mut s = state;
+    s.last_access = access;
+    s
+}
+
+// The free mutex is taken: loads, and blocks every other thread that is announced on it.
+fn post_acquire(
+    active: ThreadId,
+    object: ObjectId,
+    answer: Answered,
+    state: State,
+    threads: [Thread; THREADS],
+) -> Effect
+    ensures { λ r. ⌜ r ≡ left active (taking active object answer state) threads ⌝ }
+{
+    let last_access = state.last_access;
+    let synchronize = state.synchronize;
+    let loaded = sync_load(threads, active, synchronize);
+    Effect {
+        ending: Ending::Fine,
+        answer: answer,
+        state: State {
+            lock: Lock::Held(active),
+            last_access: last_access,
+            synchronize: synchronize,
+        },
+        threads: others(loaded, Change::Block, active, object),
+    }
+}
+
+// On a mutex that is held it is misuse.
+fn acquire_lock(
+    active: ThreadId,
+    object: ObjectId,
+    state: State,
+    threads: [Thread; THREADS],
+) -> Effect
+    ensures { λ r. ⌜ r ≡ effect AcquireLock active object state threads ⌝ }
+{
+    let lock = state.lock;
+    if is_locked(lock) {
+        return Effect {
+            ending: Ending::Misuse,
+            answer: Answered::Kept,
+            state: state,
+            threads: threads,
+        };
+    }
+    post_acquire(active, object, Answered::Kept, state, threads)
+}
+
+// A try that fails changes only its answer.
+fn try_acquire_lock(
+    active: ThreadId,
+    object: ObjectId,
+    state: State,
+    threads: [Thread; THREADS],
+) -> Effect
+    ensures { λ r. ⌜ r ≡ effect TryAcquireLock active object state threads ⌝ }
+{
+    let lock = state.lock;
+    if is_locked(lock) {
+        return Effect {
+            ending: Ending::Fine,
+            answer: Answered::Left(0),
+            state: state,
+            threads: threads,
+        };
+    }
+    post_acquire(active, object, Answered::Left(1), state, threads)
+}
+
+// Clears whoever holds the mutex, stores, and wakes every other thread that is announced on it.
+fn release_lock(
+    active: ThreadId,
+    object: ObjectId,
+    state: State,
+    threads: [Thread; THREADS],
+) -> Effect
+    ensures { λ r. ⌜ r ≡ effect ReleaseLock active object state threads ⌝ }
+{
+    let last_access = state.last_access;
+    let clock = state.synchronize;
+    let synchronize = sync_store(threads, active, clock);
+    Effect {
+        ending: Ending::Fine,
+        answer: Answered::Kept,
+        state: State {
+            lock: Lock::Free,
+            last_access: last_access,
+            synchronize: synchronize,
+        },
+        threads: others(threads, Change::Wake, active, object),
+    }
+}
+
+pub fn effect(
+    call: Call,
+    active: ThreadId,
+    object: ObjectId,
+    state: State,
+    threads: [Thread; THREADS],
+) -> Effect
+    ensures { λ r. ⌜ r ≡ effect call active object state threads ⌝ }
+{
+    match call {
+        Call::AcquireLock => acquire_lock(active, object, state, threads),
+        Call::TryAcquireLock => try_acquire_lock(active, object, state, threads),
+        Call::ReleaseLock => release_lock(active, object, state, threads),
+    }
+}

@@ -1,0 +1,81 @@
+-- `effect` meets its contract, an operation at a time.
+use borrow.Author.Needs.{needs}
+use Rattle.objects_rwlock.proofs.effect.Statement.{statement}
+use Rattle.objects_rwlock.proofs.effect.Tie as tie
+
+enum-told : tie.Need-enum-told
+enum-told c = search needs
+
+acquire-read-lock-requires : tie.Need-acquire-read-lock-requires
+acquire-read-lock-requires c κs = search needs
+
+enum-told-2 : tie.Need-enum-told-2
+enum-told-2 c = search needs
+
+acquire-write-lock-requires : tie.Need-acquire-write-lock-requires
+acquire-write-lock-requires c κs = search needs
+
+enum-told-3 : tie.Need-enum-told-3
+enum-told-3 c = search needs
+
+try-acquire-read-lock-requires : tie.Need-try-acquire-read-lock-requires
+try-acquire-read-lock-requires c κs = search needs
+
+enum-told-4 : tie.Need-enum-told-4
+enum-told-4 c = search needs
+
+try-acquire-write-lock-requires : tie.Need-try-acquire-write-lock-requires
+try-acquire-write-lock-requires c κs = search needs
+
+enum-told-5 : tie.Need-enum-told-5
+enum-told-5 c = search needs
+
+release-read-lock-requires : tie.Need-release-read-lock-requires
+release-read-lock-requires c κs = search needs
+
+enum-told-6 : tie.Need-enum-told-6
+enum-told-6 c = search needs
+
+release-write-lock-requires : tie.Need-release-write-lock-requires
+release-write-lock-requires c κs = search needs
+
+returns : tie.Need-returns
+returns c = cc
+
+returns-2 : tie.Need-returns-2
+returns-2 c = cc
+
+returns-3 : tie.Need-returns-3
+returns-3 c = cc
+
+returns-4 : tie.Need-returns-4
+returns-4 c = cc
+
+returns-5 : tie.Need-returns-5
+returns-5 c = cc
+
+returns-6 : tie.Need-returns-6
+returns-6 c = cc
+
+pub effect-spec : {M : Type 1} → statement M
+effect-spec =
+    tie.close
+    (tie.spec
+    enum-told
+    acquire-read-lock-requires
+    enum-told-2
+    acquire-write-lock-requires
+    enum-told-3
+    try-acquire-read-lock-requires
+    enum-told-4
+    try-acquire-write-lock-requires
+    enum-told-5
+    release-read-lock-requires
+    enum-told-6
+    release-write-lock-requires
+    returns
+    returns-2
+    returns-3
+    returns-4
+    returns-5
+    returns-6)

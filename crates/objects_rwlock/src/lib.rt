@@ -1,0 +1,388 @@
+// loom's rt/rwlock.rs. The readers are a set: a mask with a bit for each thread.
+ghost use mathlib.Core.Path.{_≡_};
+ghost use Rattle.rules.specs.declared.rwlock.Call.the-variants.{AcquireReadLock, AcquireWriteLock, TryAcquireReadLock, TryAcquireWriteLock, ReleaseReadLock, ReleaseWriteLock};
+ghost use Rattle.rules.specs.Ground.{threadAt};
+ghost use Rattle.rules.specs.RwLock.{new, readerBit, isReader, withReader, withoutReader, isWriteLocked, isReadLocked, isFree, actionOf, isDisabled, setLastAccess, reading, writing, leaving, left, effect};
+use clocks::Clock;
+use clocks::THREADS;
+use clocks::ThreadId;
+use objects_threads::access;
+use objects_threads::thread::others;
+use objects_threads::thread::sync_load;
+use objects_threads::thread::sync_store;
+use rules::access::Access;
+use rules::object::Ending;
+use rules::object::ObjectId;
+use rules::rwlock::Action;
+use rules::rwlock::Call;
+use rules::rwlock::Effect;
+use rules::rwlock::Locked;
+use rules::rwlock::State;
+use rules::thread::Answered;
+use rules::thread::Change;
+use rules::thread::Thread;
+
+pub fn new() -> State
+    ensures { λ r. ⌜ r ≡ new ⌝ }
+{
+    State {
+        lock: Locked::Free,
+        last_access: access::new(),
+        synchronize: Clock::new(),
+    }
+}
+
+// A thread's bit of the mask; a number that no thread has has none.
+fn reader_bit(id: ThreadId) -> u16
+    ensures { λ r. ⌜ r ≡ readerBit id ⌝ }
+{
+    let i = id.0 as usize;
+    if i < THREADS {
+        return 1u16 << i;
+    }
+    0
+}
+
+fn is_reader(readers: u16, id: ThreadId) -> bool
+    ensures { λ r. ⌜ r ≡ isReader readers id ⌝ }
+{
+    let i = id.0 as usize;
+    if i < THREADS {
+        return (readers >> i) % 2 == 1;
+    }
+    false
+}
+
+// A set: a thread that is in it already is not counted again.
+fn with_reader(readers: u16, id: ThreadId) -> u16
+    ensures { λ r. ⌜ r ≡ withReader readers id ⌝ }
+{
+    if is_reader(readers, id) {
+        return readers;
+    }
+    readers + reader_bit(id)
+}
+
+fn without_reader(readers: u16, id: ThreadId) -> u16
+    ensures { λ r. ⌜ r ≡ withoutReader readers id ⌝ }
+{
+    if is_reader(readers, id) {
+        return readers - reader_bit(id);
+    }
+    readers
+}
+
+fn is_write_locked(lock: Locked) -> bool
+    ensures { λ r. ⌜ r ≡ isWriteLocked lock ⌝ }
+{
+    match lock {
+        Locked::Free => false,
+        Locked::Read(_) => false,
+        Locked::Write(_) => true,
+    }
+}
+
+fn is_read_locked(lock: Locked) -> bool
+    ensures { λ r. ⌜ r ≡ isReadLocked lock ⌝ }
+{
+    match lock {
+        Locked::Free => false,
+        Locked::Read(_) => true,
+        Locked::Write(_) => false,
+    }
+}
+
+// Releases need no announcement.
+pub fn is_free(call: Call) -> bool
+    ensures { λ r. ⌜ r ≡ isFree call ⌝ }
+{
+    match call {
+        Call::AcquireReadLock => false,
+        Call::AcquireWriteLock => false,
+        Call::TryAcquireReadLock => false,
+        Call::TryAcquireWriteLock => false,
+        Call::ReleaseReadLock => true,
+        Call::ReleaseWriteLock => true,
+    }
+}
+
+// The action as which an operation is announced: a try is one of its kind.
+pub fn action_of(call: Call) -> Action
+    ensures { λ r. ⌜ r ≡ actionOf call ⌝ }
+{
+    match call {
+        Call::AcquireReadLock => Action::Read,
+        Call::AcquireWriteLock => Action::Write,
+        Call::TryAcquireReadLock => Action::Read,
+        Call::TryAcquireWriteLock => Action::Write,
+        Call::ReleaseReadLock => Action::Read,
+        Call::ReleaseWriteLock => Action::Write,
+    }
+}
+
+// A read blocks while the lock is written, a write while it is locked at all.
+pub fn is_disabled(call: Call, state: State) -> bool
+    ensures { λ r. ⌜ r ≡ isDisabled call state ⌝ }
+{
+    let lock = state.lock;
+    match call {
+        Call::AcquireReadLock => is_write_locked(lock),
+        Call::AcquireWriteLock => is_write_locked(lock) || is_read_locked(lock),
+        Call::TryAcquireReadLock => false,
+        Call::TryAcquireWriteLock => false,
+        Call::ReleaseReadLock => false,
+        Call::ReleaseWriteLock => false,
+    }
+}
+
+pub fn set_last_access(access: Access, state: State) -> State
+    ensures { λ r. ⌜ r ≡ setLastAccess access state ⌝ }
+{
+    let mut s = state;
+    s.last_access = access;
+    s
+}
+
+// What fails leaves all as it was; of a try that fails only the answer changes.
+fn unchanged(ending: Ending, answer: Answered, state: State, threads: [Thread; THREADS]) -> Effect
+    ensures { λ r. ⌜ r ≡ record { ending = ending; answer = answer; state = state; threads = threads } ⌝ }
+{
+    Effect {
+        ending: ending,
+        answer: answer,
+        state: state,
+        threads: threads,
+    }
+}
+
+// The active thread joins the readers: loads, and blocks every other announced writer.
+fn post_acquire_read_lock(
+    active: ThreadId,
+    object: ObjectId,
+    answer: Answered,
+    readers: u16,
+    state: State,
+    threads: [Thread; THREADS],
+) -> Effect
+    ensures { λ r. ⌜ r ≡ left active (reading active object answer readers state) threads ⌝ }
+{
+    let last_access = state.last_access;
+    let synchronize = state.synchronize;
+    let loaded = sync_load(threads, active, synchronize);
+    Effect {
+        ending: Ending::Fine,
+        answer: answer,
+        state: State {
+            lock: Locked::Read(with_reader(readers, active)),
+            last_access: last_access,
+            synchronize: synchronize,
+        },
+        threads: others(loaded, Change::BlockWriters, active, object),
+    }
+}
+
+// The active thread writes: loads, and blocks every other announced thread.
+fn post_acquire_write_lock(
+    active: ThreadId,
+    object: ObjectId,
+    answer: Answered,
+    state: State,
+    threads: [Thread; THREADS],
+) -> Effect
+    ensures { λ r. ⌜ r ≡ left active (writing active object answer state) threads ⌝ }
+{
+    let last_access = state.last_access;
+    let synchronize = state.synchronize;
+    let loaded = sync_load(threads, active, synchronize);
+    Effect {
+        ending: Ending::Fine,
+        answer: answer,
+        state: State {
+            lock: Locked::Write(active),
+            last_access: last_access,
+            synchronize: synchronize,
+        },
+        threads: others(loaded, Change::Block, active, object),
+    }
+}
+
+// Taken unless the lock is written.
+fn acquire_read_lock(
+    active: ThreadId,
+    object: ObjectId,
+    state: State,
+    threads: [Thread; THREADS],
+) -> Effect
+    ensures { λ r. ⌜ r ≡ effect AcquireReadLock active object state threads ⌝ }
+{
+    let lock = state.lock;
+    match lock {
+        Locked::Free => post_acquire_read_lock(active, object, Answered::Kept, 0, state, threads),
+        Locked::Read(readers) => post_acquire_read_lock(
+            active,
+            object,
+            Answered::Kept,
+            readers,
+            state,
+            threads,
+        ),
+        Locked::Write(_) => unchanged(Ending::Misuse, Answered::Kept, state, threads),
+    }
+}
+
+// Taken if nobody has the lock.
+fn acquire_write_lock(
+    active: ThreadId,
+    object: ObjectId,
+    state: State,
+    threads: [Thread; THREADS],
+) -> Effect
+    ensures { λ r. ⌜ r ≡ effect AcquireWriteLock active object state threads ⌝ }
+{
+    let lock = state.lock;
+    match lock {
+        Locked::Free => post_acquire_write_lock(active, object, Answered::Kept, state, threads),
+        Locked::Read(_) => unchanged(Ending::Misuse, Answered::Kept, state, threads),
+        Locked::Write(_) => unchanged(Ending::Misuse, Answered::Kept, state, threads),
+    }
+}
+
+fn try_acquire_read_lock(
+    active: ThreadId,
+    object: ObjectId,
+    state: State,
+    threads: [Thread; THREADS],
+) -> Effect
+    ensures { λ r. ⌜ r ≡ effect TryAcquireReadLock active object state threads ⌝ }
+{
+    let lock = state.lock;
+    match lock {
+        Locked::Free => post_acquire_read_lock(
+            active,
+            object,
+            Answered::Left(1),
+            0,
+            state,
+            threads,
+        ),
+        Locked::Read(readers) => post_acquire_read_lock(
+            active,
+            object,
+            Answered::Left(1),
+            readers,
+            state,
+            threads,
+        ),
+        Locked::Write(_) => unchanged(Ending::Fine, Answered::Left(0), state, threads),
+    }
+}
+
+fn try_acquire_write_lock(
+    active: ThreadId,
+    object: ObjectId,
+    state: State,
+    threads: [Thread; THREADS],
+) -> Effect
+    ensures { λ r. ⌜ r ≡ effect TryAcquireWriteLock active object state threads ⌝ }
+{
+    let lock = state.lock;
+    match lock {
+        Locked::Free => post_acquire_write_lock(active, object, Answered::Left(1), state, threads),
+        Locked::Read(_) => unchanged(Ending::Fine, Answered::Left(0), state, threads),
+        Locked::Write(_) => unchanged(Ending::Fine, Answered::Left(0), state, threads),
+    }
+}
+
+// Frees the lock at any state: stores, and wakes every other thread that is announced on it.
+fn release_write_lock(
+    active: ThreadId,
+    object: ObjectId,
+    state: State,
+    threads: [Thread; THREADS],
+) -> Effect
+    ensures { λ r. ⌜ r ≡ effect ReleaseWriteLock active object state threads ⌝ }
+{
+    let last_access = state.last_access;
+    let clock = state.synchronize;
+    let synchronize = sync_store(threads, active, clock);
+    Effect {
+        ending: Ending::Fine,
+        answer: Answered::Kept,
+        state: State {
+            lock: Locked::Free,
+            last_access: last_access,
+            synchronize: synchronize,
+        },
+        threads: others(threads, Change::Wake, active, object),
+    }
+}
+
+// `readers` are left: the last one out frees the lock, and any other only stores.
+fn leave(
+    active: ThreadId,
+    object: ObjectId,
+    readers: u16,
+    state: State,
+    threads: [Thread; THREADS],
+) -> Effect
+    ensures { λ r. ⌜ r ≡ left active (leaving object (threadAt threads active .clock) readers state) threads ⌝ }
+{
+    if readers == 0 {
+        return release_write_lock(active, object, state, threads);
+    }
+    let last_access = state.last_access;
+    let clock = state.synchronize;
+    let synchronize = sync_store(threads, active, clock);
+    Effect {
+        ending: Ending::Fine,
+        answer: Answered::Kept,
+        state: State {
+            lock: Locked::Read(readers),
+            last_access: last_access,
+            synchronize: synchronize,
+        },
+        threads: threads,
+    }
+}
+
+// By a thread that is no reader it changes the clock only; on no read lock it is misuse.
+fn release_read_lock(
+    active: ThreadId,
+    object: ObjectId,
+    state: State,
+    threads: [Thread; THREADS],
+) -> Effect
+    ensures { λ r. ⌜ r ≡ effect ReleaseReadLock active object state threads ⌝ }
+{
+    let lock = state.lock;
+    match lock {
+        Locked::Free => unchanged(Ending::Misuse, Answered::Kept, state, threads),
+        Locked::Read(readers) => leave(
+            active,
+            object,
+            without_reader(readers, active),
+            state,
+            threads,
+        ),
+        Locked::Write(_) => unchanged(Ending::Misuse, Answered::Kept, state, threads),
+    }
+}
+
+pub fn effect(
+    call: Call,
+    active: ThreadId,
+    object: ObjectId,
+    state: State,
+    threads: [Thread; THREADS],
+) -> Effect
+    ensures { λ r. ⌜ r ≡ effect call active object state threads ⌝ }
+{
+    match call {
+        Call::AcquireReadLock => acquire_read_lock(active, object, state, threads),
+        Call::AcquireWriteLock => acquire_write_lock(active, object, state, threads),
+        Call::TryAcquireReadLock => try_acquire_read_lock(active, object, state, threads),
+        Call::TryAcquireWriteLock => try_acquire_write_lock(active, object, state, threads),
+        Call::ReleaseReadLock => release_read_lock(active, object, state, threads),
+        Call::ReleaseWriteLock => release_write_lock(active, object, state, threads),
+    }
+}
