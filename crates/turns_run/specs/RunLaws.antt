@@ -8,7 +8,7 @@ use native.Mathlib.Omega.{arith}
 use lib.Dec.{ltb}
 use lib.ListN.{length, getD, drop, length-take, length-drop, drop-of-length-le, List·getD-eq-default}
 use lib.Seq.{drop-cons, set-getD}
-use borrow.Author.Tests.{leb-true, leb-false, ltb-true, ltb-false, lt-ltb, le-ltb, ne-eqb}
+use borrow.Author.Tests.{leb-true, leb-false, ltb-true, ltb-false, ne-eqb}
 use Rattle.clocks.specs.Clock.{risen}
 use Rattle.clocks.specs.Lists.{part-at}
 use Rattle.clocks.specs.declared.thread.ThreadId.{ThreadId}
@@ -52,14 +52,6 @@ use Rattle.turns_steps.specs.Step.{Scene, Moved, after, firstSubject, subject, 
 use Rattle.turns_run.specs.Run.{leftOf, opOf, sceneOf, worldOf, movedBy, goneOn, decided, Placed, goesWeight, weight, onwards, rest, followed, effectWeight}
 use Rattle.turns_steps.specs.Quiet.{who, stops, isQuiet}
 use Rattle.turns_steps.specs.Loud.{verdictOr, nextOf, outcome, nextIn}
-
--- the place of an operation that is left, and of none
-module _ (counts : List ℕ) (t : ThreadId) (p : ℕ) where
-  pub place-there : p < getD counts (t .0) 0 → maxOperations * t .0 + p ≡ placeAt counts t p
-  place-there h = rw (placeAt, lt-ltb p (getD counts (t .0) 0) h)
-
-  pub place-none : getD counts (t .0) 0 ≤ p → opPlaces ≡ placeAt counts t p
-  place-none h = rw (placeAt, le-ltb p (getD counts (t .0) 0) h)
 
 -- what a step leaves, as the turn goes on from there
 abbrev landed : Table → World → ObjectId → Moved → Decided

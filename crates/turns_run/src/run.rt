@@ -359,14 +359,22 @@ pub fn run(table: Table, world: World, list: &[u8]) -> Ran
                             Call::Channel(c) => {
                                 e = objects[o];
                                 let s = e.channel;
-                                let q = objects_mpsc::set_last_access(objects_mpsc::action_of(c), access, s);
+                                let q = objects_mpsc::set_last_access(
+                                    objects_mpsc::action_of(c),
+                                    access,
+                                    s,
+                                );
                                 e.channel = q;
                                 objects[o] = e;
                             }
                             Call::Arc(c) => {
                                 e = objects[o];
                                 let s = e.arc;
-                                let q = objects_arc::set_last_access(objects_arc::action_of(c), access, s);
+                                let q = objects_arc::set_last_access(
+                                    objects_arc::action_of(c),
+                                    access,
+                                    s,
+                                );
                                 e.arc = q;
                                 objects[o] = e;
                             }

@@ -79,6 +79,11 @@ pub allowed-in : (a : Asked) (ts : List Thread) (d : ℕ) → isAllowed a ts d �
 allowed-in asked.Nobody ts d = refl
 allowed-in (asked.Thread t) ts d = refl
 
+-- of the thread that the decision names; a question is answered whoever that is
+pub allowed-of : (a : Asked) (ts : List Thread) (d : ℕ) → allowedIn a (threadAt ts (record { 0 = d }) .state) d ≡ isAllowed a ts d
+allowed-of asked.Nobody ts d = refl
+allowed-of (asked.Thread t) ts d = refl
+
 -- which steps leave their object as it is
 abbrev pub rests : Phase → Bool
 rests Nothing = true

@@ -1,10 +1,12 @@
 -- A turn in steps: what each does to the threads and to the one object that it is about. `RunLaws` shows that together they are the turn of
 -- document 01.
+use mathlib.Core.Path.{_≡_}
 use mathlib.Core.Bool.{Bool, true, false}
 use mathlib.Core.List.{List}
-use Prim.Native.Nat.{ℕ, _+_, _*_}
+use Prim.Native.Nat.{ℕ, _+_, _*_, _≤_, _<_}
 use lib.Dec.{eqb, ltb}
 use lib.ListN.{getD}
+use borrow.Author.Tests.{lt-ltb, le-ltb}
 use Rattle.clocks.specs.Clock.{risen}
 use Rattle.clocks.specs.declared.thread.ThreadId.{ThreadId}
 use Rattle.rules.specs.declared.object.ObjectId.{ObjectId}
@@ -154,6 +156,14 @@ act (Waits t o) left op s = waits t o s
 -- where the operation at position p of a thread stands among the table's; one past the last place if there is none
 abbrev pub placeAt : List ℕ → ThreadId → ℕ → ℕ
 placeAt counts t p = elim (ltb p (getD counts (t .0) 0)) [ true ↦ maxOperations * t .0 + p | false ↦ opPlaces ]
+
+-- the place of an operation that is left, and of none
+module _ (counts : List ℕ) (t : ThreadId) (p : ℕ) where
+  pub place-there : p < getD counts (t .0) 0 → maxOperations * t .0 + p ≡ placeAt counts t p
+  place-there h = rw (placeAt, lt-ltb p (getD counts (t .0) 0) h)
+
+  pub place-none : getD counts (t .0) 0 ≤ p → opPlaces ≡ placeAt counts t p
+  place-none h = rw (placeAt, le-ltb p (getD counts (t .0) 0) h)
 
 abbrev pub placeOf : List ℕ → List Thread → Move → ℕ
 placeOf counts ts (Begins t) = placeAt counts t (threadAt ts t .position)

@@ -1,12 +1,12 @@
--- `run::after` meets its contract.
+-- `after::after` meets its contract.
 use mathlib.Core.Path.{sym, _∙_, ap}
 use Rattle.rules.specs.declared.answer.Spot.{Spot}
 use Rattle.rules.specs.declared.answer.Answer.the-variants.{Deadlock}
-use Rattle.turns.specs.declared.step.Acting.the-variants.{Done}
-use Rattle.turns.specs.Run.{after}
+use Rattle.turns_steps.specs.declared.step.Acting.the-variants.{Done}
+use Rattle.turns_steps.specs.Step.{after}
 use borrow.Author.Needs.{needs}
-use Rattle.turns.proofs.run.after.Statement.{statement}
-use Rattle.turns.proofs.run.after.Tie as tie
+use Rattle.turns_steps.proofs.after.after.Statement.{statement}
+use Rattle.turns_steps.proofs.after.after.Tie as tie
 
 all-ended-requires : tie.Need-all-ended-requires
 all-ended-requires c κs = search needs

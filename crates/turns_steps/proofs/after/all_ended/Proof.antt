@@ -10,8 +10,8 @@ use Rattle.rules.specs.declared.thread.Thread.{Thread}
 use Rattle.rules.specs.Turn.{allEnded}
 use Rattle.rules.specs.AfterLaws.{ended-at}
 use borrow.Author.Needs.{needs}
-use Rattle.turns.proofs.after.all_ended.Statement.{statement}
-use Rattle.turns.proofs.after.all_ended.Tie as tie
+use Rattle.turns_steps.proofs.after.all_ended.Statement.{statement}
+use Rattle.turns_steps.proofs.after.all_ended.Tie as tie
 
 abbrev Inv-loop : tie.InvT-loop
 Inv-loop threads k₀ k = (k ≤ 6) × (length threads ≡ 6) × (allEnded threads ≡ allEnded (drop k threads))

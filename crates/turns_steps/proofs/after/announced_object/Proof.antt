@@ -2,8 +2,8 @@
 use mathlib.Core.Path.{sym, ap}
 use Rattle.rules.specs.Turn.{announcedObject}
 use borrow.Author.Needs.{needs}
-use Rattle.turns.proofs.after.announced_object.Statement.{statement}
-use Rattle.turns.proofs.after.announced_object.Tie as tie
+use Rattle.turns_steps.proofs.after.announced_object.Statement.{statement}
+use Rattle.turns_steps.proofs.after.announced_object.Tie as tie
 
 enum-told : tie.Need-enum-told
 enum-told c = search needs

@@ -9,8 +9,8 @@ use Rattle.rules.specs.declared.thread.Thread.{Thread}
 use Rattle.rules.specs.Turn.{anyRunnable}
 use Rattle.rules.specs.AfterLaws.{runnable-at}
 use borrow.Author.Needs.{needs}
-use Rattle.turns.proofs.after.any_runnable.Statement.{statement}
-use Rattle.turns.proofs.after.any_runnable.Tie as tie
+use Rattle.turns_steps.proofs.after.any_runnable.Statement.{statement}
+use Rattle.turns_steps.proofs.after.any_runnable.Tie as tie
 
 abbrev Inv-loop : tie.InvT-loop
 Inv-loop threads k₀ k = (k ≤ 6) × (length threads ≡ 6) × (anyRunnable threads ≡ anyRunnable (drop k threads))

@@ -8,8 +8,8 @@ use Rattle.rules.specs.declared.object.Entry.{Entry}
 use Rattle.rules.specs.Turn.{leakCheck}
 use Rattle.rules.specs.AfterLaws.{leak-passed, leak-here}
 use borrow.Author.Needs.{needs}
-use Rattle.turns.proofs.after.leak_check.Statement.{statement}
-use Rattle.turns.proofs.after.leak_check.Tie as tie
+use Rattle.turns_steps.proofs.after.leak_check.Statement.{statement}
+use Rattle.turns_steps.proofs.after.leak_check.Tie as tie
 
 abbrev Inv-loop : tie.InvT-loop
 Inv-loop objects k₀ k = (k ≤ 16) × (length objects ≡ 16) × (leakCheck 0 objects ≡ leakCheck k (drop k objects))

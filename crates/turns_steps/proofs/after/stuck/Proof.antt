@@ -10,8 +10,8 @@ use Rattle.rules.specs.declared.object.ObjectId.{ObjectId}
 use Rattle.rules.specs.Turn.{stuck}
 use Rattle.rules.specs.AfterLaws.{stuck-passed, stuck-here}
 use borrow.Author.Needs.{needs}
-use Rattle.turns.proofs.after.stuck.Statement.{statement}
-use Rattle.turns.proofs.after.stuck.Tie as tie
+use Rattle.turns_steps.proofs.after.stuck.Statement.{statement}
+use Rattle.turns_steps.proofs.after.stuck.Tie as tie
 
 abbrev Inv-loop : tie.InvT-loop
 Inv-loop threads k₀ k = (k ≤ 6) × (length threads ≡ 6) × (stuck 0 threads ≡ stuck k (drop k threads))

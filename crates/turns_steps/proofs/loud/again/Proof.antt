@@ -1,10 +1,10 @@
 -- `loud::again` meets its contract.
 use mathlib.Core.Path.{sym, ap}
 use Rattle.rules.specs.declared.thread.Phase.{Phase}
-use Rattle.turns.specs.Loud.{again}
+use Rattle.turns_steps.specs.Loud.{again}
 use borrow.Author.Needs.{needs}
-use Rattle.turns.proofs.loud.again.Statement.{statement}
-use Rattle.turns.proofs.loud.again.Tie as tie
+use Rattle.turns_steps.proofs.loud.again.Statement.{statement}
+use Rattle.turns_steps.proofs.loud.again.Tie as tie
 
 enum-told : tie.Need-enum-told
 enum-told c = search needs

@@ -1,10 +1,10 @@
 -- `loud::op_in` meets its contract.
 use mathlib.Core.Path.{sym, _∙_, ap}
-use Rattle.turns.specs.declared.step.Move.{Move}
-use Rattle.turns.specs.Loud.{opIn}
+use Rattle.turns_steps.specs.declared.step.Move.{Move}
+use Rattle.turns_steps.specs.Loud.{opIn}
 use borrow.Author.Needs.{needs}
-use Rattle.turns.proofs.loud.op_in.Statement.{statement}
-use Rattle.turns.proofs.loud.op_in.Tie as tie
+use Rattle.turns_steps.proofs.loud.op_in.Statement.{statement}
+use Rattle.turns_steps.proofs.loud.op_in.Tie as tie
 
 enum-told : tie.Need-enum-told
 enum-told c = search needs

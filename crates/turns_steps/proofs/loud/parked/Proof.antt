@@ -4,10 +4,10 @@ use Rattle.rules.specs.declared.object.Action.the-variants.{Opaque}
 use Rattle.rules.specs.declared.thread.Thread.{Thread}
 use Rattle.rules.specs.declared.thread.Phase.the-variants.{Parked, Retaking}
 use Rattle.rules.specs.Ground.{withPhase}
-use Rattle.turns.specs.Loud.{parked}
+use Rattle.turns_steps.specs.Loud.{parked}
 use borrow.Author.Needs.{needs}
-use Rattle.turns.proofs.loud.parked.Statement.{statement}
-use Rattle.turns.proofs.loud.parked.Tie as tie
+use Rattle.turns_steps.proofs.loud.parked.Statement.{statement}
+use Rattle.turns_steps.proofs.loud.parked.Tie as tie
 
 has-unpark-requires : tie.Need-has-unpark-requires
 has-unpark-requires c κs = search needs

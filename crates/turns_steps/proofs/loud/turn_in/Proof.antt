@@ -1,16 +1,16 @@
 -- `loud::turn_in` meets its contract.
 use mathlib.Core.Path.{sym, _∙_, ap}
-use Rattle.turns.specs.declared.step.Move.{Move}
-use Rattle.turns.specs.Loud.{turnIn}
+use Rattle.turns_steps.specs.declared.step.Move.{Move}
+use Rattle.turns_steps.specs.Loud.{turnIn}
 use borrow.Author.Needs.{needs}
-use Rattle.turns.proofs.loud.turn_in.Statement.{statement}
-use Rattle.turns.proofs.loud.turn_in.Tie as tie
+use Rattle.turns_steps.proofs.loud.turn_in.Statement.{statement}
+use Rattle.turns_steps.proofs.loud.turn_in.Tie as tie
 
 enum-told : tie.Need-enum-told
 enum-told c = search needs
 
-one-more-turn-requires : tie.Need-one-more-turn-requires
-one-more-turn-requires c κs = search needs
+one-more-requires : tie.Need-one-more-requires
+one-more-requires c κs = search needs
 
 enum-told-2 : tie.Need-enum-told-2
 enum-told-2 c = search needs
@@ -22,7 +22,7 @@ enum-told-4 : tie.Need-enum-told-4
 enum-told-4 c = search needs
 
 returns : tie.Need-returns
-returns c = let a = c .before .before .before .args in c .one-more-turn .ensures ∙ sym (ap (λ (m : Move). turnIn m (a .n)) (c .before .enum-told .given .1))
+returns c = let a = c .before .before .before .args in c .one-more .ensures ∙ sym (ap (λ (m : Move). turnIn m (a .n)) (c .before .enum-told .given .1))
 
 returns-2 : tie.Need-returns-2
 returns-2 c = search needs
@@ -38,7 +38,7 @@ turn-in-spec =
     tie.close
     (tie.spec
     enum-told
-    one-more-turn-requires
+    one-more-requires
     enum-told-2
     enum-told-3
     enum-told-4

@@ -4,8 +4,8 @@ use Rattle.rules.specs.declared.object.Action.{Action}
 use Rattle.rules.specs.declared.thread.Phase.the-variants.{Announced}
 use Rattle.rules.specs.Object.{announced}
 use borrow.Author.Needs.{needs}
-use Rattle.turns.proofs.quiet.announced.Statement.{statement}
-use Rattle.turns.proofs.quiet.announced.Tie as tie
+use Rattle.turns_steps.proofs.quiet.announced.Statement.{statement}
+use Rattle.turns_steps.proofs.quiet.announced.Tie as tie
 
 action-of-requires : tie.Need-action-of-requires
 action-of-requires c κs = search needs

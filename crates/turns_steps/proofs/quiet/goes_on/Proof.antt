@@ -3,10 +3,10 @@ use mathlib.Core.Path.{_∙_, ap}
 use Rattle.rules.specs.declared.thread.Thread.{Thread}
 use Rattle.rules.specs.declared.thread.Phase.the-variants.{Nothing}
 use Rattle.rules.specs.Ground.{withPhase}
-use Rattle.turns.specs.Quiet.{over, goesOn}
+use Rattle.turns_steps.specs.Quiet.{over, goesOn}
 use borrow.Author.Needs.{needs}
-use Rattle.turns.proofs.quiet.goes_on.Statement.{statement}
-use Rattle.turns.proofs.quiet.goes_on.Tie as tie
+use Rattle.turns_steps.proofs.quiet.goes_on.Statement.{statement}
+use Rattle.turns_steps.proofs.quiet.goes_on.Tie as tie
 
 returns : tie.Need-returns
 unfolding goesOn

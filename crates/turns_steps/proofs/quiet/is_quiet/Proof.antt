@@ -1,10 +1,10 @@
 -- `quiet::is_quiet` meets its contract.
 use mathlib.Core.Path.{sym, _∙_, ap}
-use Rattle.turns.specs.declared.step.Move.{Move}
-use Rattle.turns.specs.Quiet.{isQuiet}
+use Rattle.turns_steps.specs.declared.step.Move.{Move}
+use Rattle.turns_steps.specs.Quiet.{isQuiet}
 use borrow.Author.Needs.{needs}
-use Rattle.turns.proofs.quiet.is_quiet.Statement.{statement}
-use Rattle.turns.proofs.quiet.is_quiet.Tie as tie
+use Rattle.turns_steps.proofs.quiet.is_quiet.Statement.{statement}
+use Rattle.turns_steps.proofs.quiet.is_quiet.Tie as tie
 
 enum-told : tie.Need-enum-told
 enum-told c = search needs

@@ -2,14 +2,18 @@
 use mathlib.Core.Path.{sym, _∙_, ap}
 use Rattle.rules.specs.declared.thread.Thread.{Thread}
 use Rattle.rules.specs.declared.world.Asked.the-variants.{Nobody}
-use Rattle.turns.specs.declared.step.Move.{Move}
-use Rattle.turns.specs.Quiet.{over, quietly}
+use Rattle.turns_steps.specs.declared.step.Move.{Move}
+use Rattle.turns_steps.specs.Quiet.{begins, over, quietly}
+use Rattle.rules.specs.declared.condvar.Wait.{Wait}
 use borrow.Author.Needs.{needs}
-use Rattle.turns.proofs.quiet.quietly.Statement.{statement}
-use Rattle.turns.proofs.quiet.quietly.Tie as tie
+use Rattle.turns_steps.proofs.quiet.quietly.Statement.{statement}
+use Rattle.turns_steps.proofs.quiet.quietly.Tie as tie
 
 enum-known-m : tie.Need-enum-known-m
 enum-known-m c = search needs
+
+wait-of-requires : tie.Need-wait-of-requires
+wait-of-requires c κs = search needs
 
 begins-requires : tie.Need-begins-requires
 begins-requires c κs = search needs
@@ -37,7 +41,11 @@ over-requires-2 c κs = search needs
 
 returns : tie.Need-returns
 unfolding quietly
-returns c = let a = c .before .before .before .before .args in c .begins .ensures ∙ sym (ap (λ (m : Move). quietly m (a .left) (a .op) (a .barred) (a .ask) (a .x) (a .n) (a .a)) (c .before .before .m .given .1))
+returns c =
+    let a = c .before .before .before .before .before .args in
+    c .begins .ensures
+    ∙ ap (λ (w : Wait). begins (a .x .phase) (c .before .before .before .m .given .0 .0) w (a .barred) (a .x) (a .n) (a .a)) (c .before .wait-of .ensures)
+    ∙ sym (ap (λ (m : Move). quietly m (a .left) (a .op) (a .barred) (a .ask) (a .x) (a .n) (a .a)) (c .before .before .before .m .given .1))
 
 returns-2 : tie.Need-returns-2
 unfolding quietly
@@ -56,6 +64,7 @@ quietly-spec =
     tie.close
     (tie.spec
     enum-known-m
+    wait-of-requires
     begins-requires
     enum-told
     announced-requires

@@ -1,8 +1,8 @@
 -- `quiet::stops` meets its contract.
-use Rattle.turns.specs.Quiet.{stops}
+use Rattle.turns_steps.specs.Quiet.{stops}
 use borrow.Author.Needs.{needs}
-use Rattle.turns.proofs.quiet.stops.Statement.{statement}
-use Rattle.turns.proofs.quiet.stops.Tie as tie
+use Rattle.turns_steps.proofs.quiet.stops.Statement.{statement}
+use Rattle.turns_steps.proofs.quiet.stops.Tie as tie
 
 is-free-requires : tie.Need-is-free-requires
 is-free-requires c κs = search needs

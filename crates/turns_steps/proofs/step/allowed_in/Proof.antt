@@ -1,10 +1,10 @@
--- `run::is_allowed` meets its contract.
+-- `step::is_allowed` meets its contract.
 use mathlib.Core.Path.{sym, ap}
 use Rattle.rules.specs.declared.world.Asked.{Asked}
-use Rattle.turns.specs.Quiet.{allowedIn}
+use Rattle.turns_steps.specs.Quiet.{allowedIn}
 use borrow.Author.Needs.{needs}
-use Rattle.turns.proofs.run.is_allowed.Statement.{statement}
-use Rattle.turns.proofs.run.is_allowed.Tie as tie
+use Rattle.turns_steps.proofs.step.allowed_in.Statement.{statement}
+use Rattle.turns_steps.proofs.step.allowed_in.Tie as tie
 
 enum-told : tie.Need-enum-told
 enum-told c = search needs
@@ -21,5 +21,5 @@ returns c = search needs
 returns-2 : tie.Need-returns-2
 returns-2 c = let a = c .before .before .args in sym (ap (λ (x : Asked). allowedIn x (a .state) (a .d)) (c .enum-told2 .given .1))
 
-pub is-allowed-spec : {M : Type 1} → statement M
-is-allowed-spec = tie.close (tie.spec enum-told is-runnable-requires enum-told-2 returns returns-2)
+pub allowed-in-spec : {M : Type 1} → statement M
+allowed-in-spec = tie.close (tie.spec enum-told is-runnable-requires enum-told-2 returns returns-2)

@@ -1,10 +1,10 @@
--- `run::chosen` meets its contract.
+-- `step::chosen` meets its contract.
 use mathlib.Core.Path.{sym, ap}
 use Rattle.rules.specs.declared.world.Asked.{Asked}
-use Rattle.turns.specs.Step.{chosen}
+use Rattle.turns_steps.specs.Step.{chosen}
 use borrow.Author.Needs.{needs}
-use Rattle.turns.proofs.run.chosen.Statement.{statement}
-use Rattle.turns.proofs.run.chosen.Tie as tie
+use Rattle.turns_steps.proofs.step.chosen.Statement.{statement}
+use Rattle.turns_steps.proofs.step.chosen.Tie as tie
 
 enum-told : tie.Need-enum-told
 enum-told c = search needs

@@ -1,89 +1,19 @@
--- `step::mutex_of` meets its contract, an operation at a time.
-use mathlib.Core.Path.{sym, _∙_, ap}
-use Rattle.rules.specs.declared.table.Call.the-variants.{Condvar}
-use Rattle.rules.specs.declared.condvar.Call.{Call}
-use Rattle.rules.specs.Turn.{mutexOf}
+-- `step::mutex_of` meets its contract.
 use borrow.Author.Needs.{needs}
-use Rattle.turns.proofs.step.mutex_of.Statement.{statement}
-use Rattle.turns.proofs.step.mutex_of.Tie as tie
+use Rattle.turns_steps.proofs.step.mutex_of.Statement.{statement}
+use Rattle.turns_steps.proofs.step.mutex_of.Tie as tie
 
-enum-known-call : tie.Need-enum-known-call
-enum-known-call c = search needs
-
-enum-known-c : tie.Need-enum-known-c
-enum-known-c c = search needs
+enum-known-wait : tie.Need-enum-known-wait
+enum-known-wait c = search needs
 
 enum-told : tie.Need-enum-told
 enum-told c = search needs
-
-enum-told-2 : tie.Need-enum-told-2
-enum-told-2 c = search needs
-
-enum-told-3 : tie.Need-enum-told-3
-enum-told-3 c = search needs
-
-enum-told-4 : tie.Need-enum-told-4
-enum-told-4 c = search needs
-
-enum-told-5 : tie.Need-enum-told-5
-enum-told-5 c = search needs
-
-enum-told-6 : tie.Need-enum-told-6
-enum-told-6 c = search needs
-
-enum-told-7 : tie.Need-enum-told-7
-enum-told-7 c = search needs
-
-enum-told-8 : tie.Need-enum-told-8
-enum-told-8 c = search needs
 
 returns : tie.Need-returns
 returns c = search needs
 
 returns-2 : tie.Need-returns-2
-returns-2 c = sym (ap mutexOf (c .before .before .before .call .given .1) ∙ ap (λ (k : Call). mutexOf (Condvar k)) (c .enum-told .given .1))
-
-returns-3 : tie.Need-returns-3
-returns-3 c = sym (ap mutexOf (c .before .before .before .call .given .1) ∙ ap (λ (k : Call). mutexOf (Condvar k)) (c .enum-told2 .given .1))
-
-returns-4 : tie.Need-returns-4
-returns-4 c = sym (ap mutexOf (c .enum-told3 .given .1))
-
-returns-5 : tie.Need-returns-5
-returns-5 c = sym (ap mutexOf (c .enum-told4 .given .1))
-
-returns-6 : tie.Need-returns-6
-returns-6 c = sym (ap mutexOf (c .enum-told5 .given .1))
-
-returns-7 : tie.Need-returns-7
-returns-7 c = sym (ap mutexOf (c .enum-told6 .given .1))
-
-returns-8 : tie.Need-returns-8
-returns-8 c = sym (ap mutexOf (c .enum-told7 .given .1))
-
-returns-9 : tie.Need-returns-9
-returns-9 c = sym (ap mutexOf (c .enum-told8 .given .1))
+returns-2 c = rw (c .enum-told .given .1)
 
 pub mutex-of-spec : {M : Type 1} → statement M
-mutex-of-spec =
-    tie.close
-    (tie.spec
-    enum-known-call
-    enum-known-c
-    enum-told
-    enum-told-2
-    enum-told-3
-    enum-told-4
-    enum-told-5
-    enum-told-6
-    enum-told-7
-    enum-told-8
-    returns
-    returns-2
-    returns-3
-    returns-4
-    returns-5
-    returns-6
-    returns-7
-    returns-8
-    returns-9)
+mutex-of-spec = tie.close (tie.spec enum-known-wait enum-told returns returns-2)

@@ -1,14 +1,15 @@
--- `run::place_at` meets its contract.
-use Rattle.turns.specs.RunLaws.{place-there, place-none}
+-- `step::place_at` meets its contract.
+use Rattle.turns_steps.specs.Step.{place-there, place-none}
 use Prim.Native.Nat.{_≤_}
 use native.Mathlib.Omega.{arith}
 use mathlib.Core.Path.{_≡_}
 use lib.ListN.{length, getD, List·getD-eq-default}
 use mathlib.Core.List.{List}
 use Prim.Native.Nat.{ℕ}
+use Rattle.clocks.specs.Clock.{maxThreads}
 use borrow.Author.Needs.{needs}
-use Rattle.turns.proofs.run.place_at.Statement.{statement}
-use Rattle.turns.proofs.run.place_at.Tie as tie
+use Rattle.turns_steps.proofs.step.place_at.Statement.{statement}
+use Rattle.turns_steps.proofs.step.place_at.Tie as tie
 
 cast-i : tie.Need-cast-i
 cast-i c = search needs
@@ -32,7 +33,7 @@ returns-3 : tie.Need-returns-3
 returns-3 c =
     let a = c .before .before .args in
     let counts : List ℕ = a .t1 in
-    let l : length counts ≡ 6 = search needs in
+    let l : length counts ≡ maxThreads = search needs in
     let out : length counts ≤ a .t .0 = omega (arith, c .if1 .left) in
     let none : getD counts (a .t .0) 0 ≤ a .p = omega (arith, List·getD-eq-default counts 0 out) in
     place-none counts (a .t) (a .p) none

@@ -1,9 +1,9 @@
--- `run::place_of` meets its contract.
+-- `step::place_of` meets its contract.
 use mathlib.Core.Path.{sym, _∙_, ap}
-use Rattle.turns.specs.Quiet.{placeIn}
+use Rattle.turns_steps.specs.Quiet.{placeIn}
 use borrow.Author.Needs.{needs}
-use Rattle.turns.proofs.run.place_of.Statement.{statement}
-use Rattle.turns.proofs.run.place_of.Tie as tie
+use Rattle.turns_steps.proofs.step.place_of.Statement.{statement}
+use Rattle.turns_steps.proofs.step.place_of.Tie as tie
 
 enum-known-m : tie.Need-enum-known-m
 enum-known-m c = search needs

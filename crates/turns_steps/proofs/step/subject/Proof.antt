@@ -1,10 +1,10 @@
 -- `step::subject` meets its contract.
 use mathlib.Core.Path.{sym, _∙_, ap}
-use Rattle.turns.specs.declared.step.Move.{Move}
-use Rattle.turns.specs.Quiet.{subjectIn}
+use Rattle.turns_steps.specs.declared.step.Move.{Move}
+use Rattle.turns_steps.specs.Quiet.{subjectIn}
 use borrow.Author.Needs.{needs}
-use Rattle.turns.proofs.step.subject.Statement.{statement}
-use Rattle.turns.proofs.step.subject.Tie as tie
+use Rattle.turns_steps.proofs.step.subject.Statement.{statement}
+use Rattle.turns_steps.proofs.step.subject.Tie as tie
 
 enum-told : tie.Need-enum-told
 enum-told c = search needs
