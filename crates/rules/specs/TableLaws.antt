@@ -9,7 +9,8 @@ use lib.Dec.{eqb, ltb, leb}
 use lib.ListN.{length, getD, set, drop, replicate, length-set, length-take, length-drop, drop-of-length-le}
 use lib.Seq.{drop-cons, drop-drop}
 use borrow.Author.Tests.{ltb-true, ltb-false, leb-true, eqb-true, eqb-false}
-use Rattle.clocks.specs.Clock.{risen}
+use Rattle.clocks.specs.Clock.{maxThreads, risen}
+use Rattle.rules.specs.Limits.{maxObjects, maxOperations, opPlaces}
 use Rattle.rules.specs.declared.table.Op.{Op}
 use Rattle.rules.specs.declared.table.Made.{Made}
 use Rattle.rules.specs.declared.table.Table.{Table}
@@ -32,19 +33,23 @@ pub split : {X : Type 0} (b : Bool) → (b ≡ true → X) → (b ≡ false → 
 split true f g = f refl
 split false f g = g refl
 
--- the operations of a thread: how many there may be, and those after the one at p, as a position that stays at its type's end counts them
-pub ops-few : (table : Table) (k : ℕ) → length (table .ops) ≡ 192 → length (opsOf table k) ≤ 192 - 32 * k
+-- the operations of a thread: how many there may be, by the places and by its count
+pub ops-few : (table : Table) (k : ℕ) → length (table .ops) ≡ opPlaces → length (opsOf table k) ≤ opPlaces - maxOperations * k
 unfolding opsOf
-ops-few table k l = omega (arith, length-take (getD (table .counts) k 0) (drop (32 * k) (table .ops)), length-drop (32 * k) (table .ops), l)
+ops-few table k l = omega (arith, length-take (getD (table .counts) k 0) (drop (maxOperations * k) (table .ops)), length-drop (maxOperations * k) (table .ops), l)
 
-pub ops-next : (table : Table) (k p : ℕ) → length (table .ops) ≡ 192 → drop (risen 255 p) (opsOf table k) ≡ drop 1 (drop p (opsOf table k))
-ops-next table k p l =
+pub ops-counted : (table : Table) (k : ℕ) → length (opsOf table k) ≤ getD (table .counts) k 0
+unfolding opsOf
+ops-counted table k = omega (arith, length-take (getD (table .counts) k 0) (drop (maxOperations * k) (table .ops)))
+
+-- those after the one at p, as a position that stays at its type's end counts them
+pub ops-next : (table : Table) (k p : ℕ) → getD (table .counts) k 0 ≤ 255 → drop (risen 255 p) (opsOf table k) ≡ drop 1 (drop p (opsOf table k))
+ops-next table k p few =
     let os : List Op = opsOf table k in
-    let few : length os ≤ 192 - 32 * k = ops-few table k l in
     split (ltb p 255) (λ e. let r : risen 255 p ≡ p + 1 = omega (arith, ltb-true p 255 e) in ap (λ (j : ℕ). drop j os) r ∙ sym (drop-drop 1 p os))
     (λ e.
-    let r : length os ≤ risen 255 p = omega (arith, few, ltb-false p 255 e) in
-    let s : length os ≤ p + 1 = omega (arith, few, ltb-false p 255 e) in
+    let r : length os ≤ risen 255 p = omega (arith, ops-counted table k, few, ltb-false p 255 e) in
+    let s : length os ≤ p + 1 = omega (arith, ops-counted table k, few, ltb-false p 255 e) in
     drop-of-length-le os {i = risen 255 p} r ∙ sym (drop-drop 1 p os ∙ drop-of-length-le os {i = p + 1} s))
 
 -- the ranges of kinds
@@ -71,7 +76,7 @@ andThen (accepted t) go = go t
 
 pub one-then : (at : ℕ) (t : Table) (r : Parsed) (go : Table → Read) → oneRecord at t r go ≡ andThen (oneRecord at t r accepted) go
 unfolding oneRecord objectRecord threadRecord operationRecord
-one-then at t (Whole (rec.Object m)) go = choose (eqb (t .«thread_count») 0) (ltb (t .«object_count») 16)
+one-then at t (Whole (rec.Object m)) go = choose (eqb (t .«thread_count») 0) (ltb (t .«object_count») maxObjects)
   where
     choose : (b c : Bool)
         → elim b [ true ↦ elim c [ true ↦ go (withObject t m) | false ↦ refused (TooMany at) ] | false ↦ refused (BadRecord at) ]
@@ -79,13 +84,13 @@ one-then at t (Whole (rec.Object m)) go = choose (eqb (t .«thread_count») 0) (
     choose true true = refl
     choose true false = refl
     choose false c = refl
-one-then at t (Whole rec.Thread) go = choose (ltb (t .«thread_count») 6)
+one-then at t (Whole rec.Thread) go = choose (ltb (t .«thread_count») maxThreads)
   where
     choose : (b : Bool)
         → elim b [ true ↦ go (withThread t) | false ↦ refused (TooMany at) ] ≡ andThen (elim b [ true ↦ accepted (withThread t) | false ↦ refused (TooMany at) ]) go
     choose true = refl
     choose false = refl
-one-then at t (Whole (rec.Operation op)) go = choose (eqb (t .«thread_count») 0) (ltb (lastCount t) 32) (objectsFine (t .objects) op)
+one-then at t (Whole (rec.Operation op)) go = choose (eqb (t .«thread_count») 0) (ltb (lastCount t) maxOperations) (objectsFine (t .objects) op)
   where
     choose : (b c d : Bool)
         → elim b [ true ↦ refused (BadRecord at) | false ↦ elim c [ true ↦ elim d [ true ↦ go (withOp t op) | false ↦ refused (BadObject at) ] | false ↦ refused (TooMany at) ] ]
@@ -180,9 +185,9 @@ body-small k =
 -- What holds of every table that is read: `I` of the place and the table, kept by each record that is accepted, and what it comes to, `Q`.
 module _ (I : ℕ → Table → Type 0) (Q : Read → Type 0)
     (stops : (at : ℕ) (t : Table) → I at t → Q (refused (BadRecord at)) × Q (refused (TooMany at)) × Q (refused (BadObject at)))
-    (object : (at past : ℕ) (t : Table) (m : Made) → past ≤ at + 3 → t .«thread_count» ≡ 0 → t .«object_count» < 16 → I at t → I past (withObject t m))
-    (thread : (at past : ℕ) (t : Table) → past ≤ at + 3 → t .«thread_count» < 6 → I at t → I past (withThread t))
-    (operation : (at past : ℕ) (t : Table) (op : Op) → past ≤ at + 3 → 0 < t .«thread_count» → lastCount t < 32 → I at t → I past (withOp t op))
+    (object : (at past : ℕ) (t : Table) (m : Made) → past ≤ at + 3 → t .«thread_count» ≡ 0 → t .«object_count» < maxObjects → I at t → I past (withObject t m))
+    (thread : (at past : ℕ) (t : Table) → past ≤ at + 3 → t .«thread_count» < maxThreads → I at t → I past (withThread t))
+    (operation : (at past : ℕ) (t : Table) (op : Op) → past ≤ at + 3 → 0 < t .«thread_count» → lastCount t < maxOperations → objectsFine (t .objects) op ≡ true → I at t → I past (withOp t op))
     (ends : (at : ℕ) (t : Table) → 0 < t .«thread_count» → I at t → Q (accepted t)) where
   positive : (n : ℕ) → eqb n 0 ≡ false → 0 < n
   positive zero e = absurd (eqb-false 0 0 e refl)
@@ -193,16 +198,16 @@ module _ (I : ℕ → Table → Type 0) (Q : Read → Type 0)
   one-by at past on t (Whole (rec.Object m)) go i next =
       by-test Q (eqb (t .«thread_count») 0)
       (λ z.
-      by-test Q (ltb (t .«object_count») 16)
-      (λ l. next _ (object at past t m on (eqb-true (t .«thread_count») 0 z) (ltb-true (t .«object_count») 16 l) i)) (λ l. stops at t i .1)) (λ z. stops at t i .0)
+      by-test Q (ltb (t .«object_count») maxObjects)
+      (λ l. next _ (object at past t m on (eqb-true (t .«thread_count») 0 z) (ltb-true (t .«object_count») maxObjects l) i)) (λ l. stops at t i .1)) (λ z. stops at t i .0)
   one-by at past on t (Whole rec.Thread) go i next =
-      by-test Q (ltb (t .«thread_count») 6) (λ l. next _ (thread at past t on (ltb-true (t .«thread_count») 6 l) i)) (λ l. stops at t i .1)
+      by-test Q (ltb (t .«thread_count») maxThreads) (λ l. next _ (thread at past t on (ltb-true (t .«thread_count») maxThreads l) i)) (λ l. stops at t i .1)
   one-by at past on t (Whole (rec.Operation op)) go i next =
       by-test Q (eqb (t .«thread_count») 0) (λ z. stops at t i .0)
       (λ z.
-      by-test Q (ltb (lastCount t) 32)
+      by-test Q (ltb (lastCount t) maxOperations)
       (λ l.
-      by-test Q (objectsFine (t .objects) op) (λ f. next _ (operation at past t op on (positive (t .«thread_count») z) (ltb-true (lastCount t) 32 l) i)) (λ f. stops at t i .2))
+      by-test Q (objectsFine (t .objects) op) (λ f. next _ (operation at past t op on (positive (t .«thread_count») z) (ltb-true (lastCount t) maxOperations l) f i)) (λ f. stops at t i .2))
       (λ l. stops at t i .1))
   one-by at past on t Bad go i next = stops at t i .0
 
@@ -221,32 +226,47 @@ module _ (I : ℕ → Table → Type 0) (Q : Read → Type 0)
   unfolding readTable
   read-by bs i = from-by (length bs) 0 bs emptyTable i
 
+-- So what holds of a table with no record, and is kept by each record, holds of every accepted one, which has a thread.
+module _ (I : Table → Type 0) (object : (t : Table) (m : Made) → t .«object_count» < maxObjects → I t → I (withObject t m))
+    (thread : (t : Table) → t .«thread_count» < maxThreads → I t → I (withThread t))
+    (operation : (t : Table) (op : Op) → lastCount t < maxOperations → objectsFine (t .objects) op ≡ true → I t → I (withOp t op)) (none : I emptyTable) where
+  abbrev Accepts : Read → Type 0
+  Accepts r = (table : Table) → r ≡ accepted table → I table × (0 < table .«thread_count»)
+
+  never : (a : Answer) → Accepts (refused a)
+  never a table e = let q : _≡_ {A = ℕ} 0 1 = cc in absurd (omega (arith, q))
+
+  pub accepted-by : (bs : List ℕ) → Accepts (readTable bs)
+  accepted-by bs =
+      read-by (λ at t. I t) Accepts (λ at t i. (never (BadRecord at), never (TooMany at), never (BadObject at))) (λ at past t m on z l i. object t m l i)
+      (λ at past t on l i. thread t l i) (λ at past t op on some l f i. operation t op l f i) (λ at t some i table e. let same : t ≡ table = cc in rw (← same) (i, some)) bs none
+
 -- "At most 16 objects, 1 to 6 threads, 0 to 32 operations a thread"; the places for operations and counts are all there
 pub record Within (t : Table) : Type 0 where
-  pub objects : t .«object_count» ≤ 16
-  pub threads : t .«thread_count» ≤ 6
-  pub ops : length (t .ops) ≡ 192
-  pub counts : length (t .counts) ≡ 6
-  pub most : (k : ℕ) → getD (t .counts) k 0 ≤ 32
+  pub objects : t .«object_count» ≤ maxObjects
+  pub threads : t .«thread_count» ≤ maxThreads
+  pub ops : length (t .ops) ≡ opPlaces
+  pub counts : length (t .counts) ≡ maxThreads
+  pub most : (k : ℕ) → getD (t .counts) k 0 ≤ maxOperations
 
 -- one count more, where there was room
-count-most : (counts : List ℕ) (i n : ℕ) → n ≤ 32 → ((k : ℕ) → getD counts k 0 ≤ 32) → (k : ℕ) → getD (set counts i n) k 0 ≤ 32
+count-most : (counts : List ℕ) (i n : ℕ) → n ≤ maxOperations → ((k : ℕ) → getD counts k 0 ≤ maxOperations) → (k : ℕ) → getD (set counts i n) k 0 ≤ maxOperations
 count-most [] i n l h k = h k
 count-most (x ∷ counts) zero n l h zero = l
 count-most (x ∷ counts) zero n l h (suc k) = h (suc k)
 count-most (x ∷ counts) (suc i) n l h zero = h 0
 count-most (x ∷ counts) (suc i) n l h (suc k) = count-most counts i n l (λ j. h (suc j)) k
 
-no-count : (n k : ℕ) → getD (replicate n 0) k 0 ≤ 32
+no-count : (n k : ℕ) → getD (replicate n 0) k 0 ≤ maxOperations
 no-count zero k = omega arith
 no-count (suc n) zero = omega arith
 no-count (suc n) (suc k) = no-count n k
 
 empty-within : Within emptyTable
 unfolding emptyTable
-empty-within = record { objects = omega arith; threads = omega arith; ops = refl; counts = refl; most = no-count 6 }
+empty-within = record { objects = omega arith; threads = omega arith; ops = refl; counts = refl; most = no-count maxThreads }
 
-op-within : (t : Table) (op : Op) → lastCount t < 32 → Within t → Within (withOp t op)
+op-within : (t : Table) (op : Op) → lastCount t < maxOperations → Within t → Within (withOp t op)
 unfolding withOp
 op-within t op l w =
     record {
@@ -257,23 +277,18 @@ op-within t op l w =
       most = count-most (t .counts) _ (lastCount t + 1) (omega (arith, l)) (w .most);
     }
 
-object-within : (t : Table) (m : Made) → t .«object_count» < 16 → Within t → Within (withObject t m)
+object-within : (t : Table) (m : Made) → t .«object_count» < maxObjects → Within t → Within (withObject t m)
 unfolding withObject
 object-within t m l w = record { objects = omega (arith, l); threads = w .threads; ops = w .ops; counts = w .counts; most = w .most }
 
-thread-within : (t : Table) → t .«thread_count» < 6 → Within t → Within (withThread t)
+thread-within : (t : Table) → t .«thread_count» < maxThreads → Within t → Within (withThread t)
 unfolding withThread
 thread-within t l w = record { objects = w .objects; threads = omega (arith, l); ops = w .ops; counts = w .counts; most = w .most }
 
-abbrev Ends : Read → Type 0
-Ends r = (table : Table) → r ≡ accepted table → Within table × (0 < table .«thread_count»)
-
-never : (a : Answer) → Ends (refused a)
-never a table e = let q : _≡_ {A = ℕ} 0 1 = cc in absurd (omega (arith, q))
-
 -- what is accepted is within the limits, and has a thread
-pub read-within : (bs : List ℕ) → Ends (readTable bs)
-read-within bs =
-    read-by (λ at t. Within t) Ends (λ at t w. (never (BadRecord at), never (TooMany at), never (BadObject at))) (λ at past t m on z l w. object-within t m l w)
-    (λ at past t on l w. thread-within t l w) (λ at past t op on some l w. op-within t op l w)
-    (λ at t some w table e. let same : t ≡ table = cc in rw (← same) (w, some)) bs empty-within
+pub read-within : (bs : List ℕ) (table : Table) → readTable bs ≡ accepted table → Within table × (0 < table .«thread_count»)
+read-within = accepted-by Within (λ t m l w. object-within t m l w) (λ t l w. thread-within t l w) (λ t op l f w. op-within t op l w) empty-within
+
+-- a position counts the operations of a thread of such a table
+pub step-on : (table : Table) → Within table → (k p : ℕ) → drop (risen 255 p) (opsOf table k) ≡ drop 1 (drop p (opsOf table k))
+step-on table n k p = ops-next table k p (omega (arith, n .most k))

@@ -1,10 +1,12 @@
 -- `run::nowhere` meets its contract.
 use lib.ListN.{replicate}
 use Rattle.rules.specs.declared.world.Asked.the-variants.{Nobody}
-use Rattle.turns.specs.Run.{nowhere}
+use Rattle.turns_run.specs.Run.{nowhere}
+use Rattle.clocks.specs.Clock.{maxThreads}
+use Rattle.rules.specs.Limits.{maxObjects}
 use borrow.Author.Needs.{needs}
-use Rattle.turns.proofs.run.nowhere.Statement.{statement}
-use Rattle.turns.proofs.run.nowhere.Tie as tie
+use Rattle.turns_run.proofs.run.nowhere.Statement.{statement}
+use Rattle.turns_run.proofs.run.nowhere.Tie as tie
 
 absent-requires : tie.Need-absent-requires
 absent-requires c κs = search needs
@@ -14,7 +16,7 @@ absent-requires-2 c κs = search needs
 
 returns : tie.Need-returns
 unfolding nowhere
-returns c = λ i. record { threads = replicate 6 (c .before .absent .ensures i); objects = replicate 16 (c .absent2 .ensures i); turn = 0; asked = Nobody }
+returns c = λ i. record { threads = replicate maxThreads (c .before .absent .ensures i); objects = replicate maxObjects (c .absent2 .ensures i); turn = 0; asked = Nobody }
 
 pub nowhere-spec : {M : Type 1} → statement M
 nowhere-spec = tie.close (tie.spec absent-requires absent-requires-2 returns)

@@ -1,7 +1,7 @@
 -- `run::refused` meets its contract.
 use borrow.Author.Needs.{needs}
-use Rattle.turns.proofs.run.refused.Statement.{statement}
-use Rattle.turns.proofs.run.refused.Tie as tie
+use Rattle.turns_run.proofs.run.refused.Statement.{statement}
+use Rattle.turns_run.proofs.run.refused.Tie as tie
 
 nowhere-requires : tie.Need-nowhere-requires
 nowhere-requires c κs = search needs

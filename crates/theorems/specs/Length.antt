@@ -5,9 +5,9 @@ use mathlib.Core.List.{List, [], _∷_}
 use Prim.Native.Nat.{ℕ, zero, suc, _+_, _-_, _*_, _≤_, _<_}
 use native.Mathlib.Omega.{arith}
 use lib.Dec.{T, ltb}
-use lib.ListN.{length, getD, drop, replicate, length-take, length-map, List·getD-map}
+use lib.ListN.{length, getD, drop, replicate, length-take}
 use borrow.Author.Tests.{ltb-true}
-use Rattle.clocks.specs.Clock.{risen}
+use Rattle.clocks.specs.Clock.{maxThreads}
 use Rattle.clocks.specs.Pass.{passFrom}
 use Rattle.clocks.specs.declared.thread.ThreadId.{ThreadId}
 use Rattle.lists.specs.Rules.{Outcome, complete, isNil, afterb}
@@ -20,18 +20,20 @@ use Rattle.rules.specs.declared.table.Table.{Table}
 use Rattle.rules.specs.declared.world.Asked.{Asked}
 use Rattle.rules.specs.declared.world.Asked.the-variants as asked
 use Rattle.rules.specs.declared.world.World.{World}
+use Rattle.rules.specs.Limits.{maxOperations}
 use Rattle.rules.specs.Ground.{absent}
+use Rattle.rules.specs.Effect.{waitOf}
 use Rattle.rules.specs.Table.{opsOf, noOp}
-use Rattle.rules.specs.TableLaws.{by-test, ops-next, Within}
+use Rattle.rules.specs.TableLaws.{by-test, Within}
 use Rattle.rules.specs.Turn.{threadIn, startThread, start}
 use Rattle.rules.specs.Judge.{Verdict, step}
 use Rattle.rules.specs.Walk.{leftIn, askedOf, left}
 use Rattle.rules.specs.Demand.{Complete}
-use Rattle.walk.specs.Shape.{Shape, shape, shapes}
-use Rattle.walk.specs.Stage.{SoundIn, opsAt, leftShape, leftAt, total}
-use Rattle.walk.specs.Falling.{Good, Ready, left-sum, wait-small, total-at, sound-here, runnable-within, runs, asked-one, asked-none}
-use Rattle.walk.specs.Machine.{some-runnable, keeps, falls}
-use Rattle.walk.specs.Accepted.{start-good}
+use Rattle.theorems.specs.Shape.{Shape, shape, shapes}
+use Rattle.theorems.specs.Stage.{SoundIn, opsAt, leftShape, leftAt, total}
+use Rattle.theorems.specs.Falling.{Good, Ready, staged, left-sum, wait-small, sound-here, runnable-within, runs, asked-one, asked-none}
+use Rattle.theorems.specs.Machine.{some-runnable, keeps, falls}
+use Rattle.theorems.specs.Accepted.{start-good}
 
 going : (ops : List Op) → leftIn phase.Nothing ops ≡ 3 * length ops + 1
 unfolding leftIn
@@ -41,23 +43,14 @@ going ops = refl
 part-some : (f : Phase) (ops : List Op) → SoundIn f ops → 0 < leftIn f ops
 unfolding leftIn
 part-some phase.Nothing ops s = omega arith
-part-some (phase.Announced p) ops s = omega (arith, s, wait-small (getD ops 0 noOp .call))
+part-some (phase.Announced p) ops s = omega (arith, s, wait-small (waitOf (getD ops 0 noOp .call)))
 part-some phase.Parked ops s = omega (arith, s)
 part-some (phase.Retaking p) ops s = omega (arith, s)
 
 module _ (table : Table) (n : Within table) (w : World) (g : Good table w) where
-  step-on : (k p : ℕ) → drop (risen 255 p) (opsOf table k) ≡ drop 1 (drop p (opsOf table k))
-  step-on k p = ops-next table k p (n .ops)
-
   -- its part of the sum
-  part-at : (t : ThreadId) → t .0 < 6 → leftAt table (t .0) (shape (threadIn w t)) ≤ total table 0 (shapes (w .threads))
-  part-at t within =
-      let l : t .0 < length (shapes (w .threads)) = omega (arith, within, g .long, length-map (w .threads) shape) in
-      let h = total-at table 0 (shapes (w .threads)) (t .0) (shape absent) l in
-      let z : 0 + t .0 ≡ t .0 = omega arith in
-      let a : leftAt table (0 + t .0) (getD (shapes (w .threads)) (t .0) (shape absent)) ≡ leftAt table (t .0) (shape (threadIn w t)) =
-      (λ i. leftAt table (z i) (List·getD-map shape (w .threads) (t .0) absent i)) in
-      omega (arith, h, a)
+  part-at : (t : ThreadId) → t .0 < maxThreads → leftAt table (t .0) (shape (threadIn w t)) ≤ total table 0 (shapes (w .threads))
+  part-at t within = omega (arith, staged table w g n t within .rest)
 
   pub left-some : 0 < left table w
   left-some = go (w .asked) refl (g .ready)
@@ -66,8 +59,8 @@ module _ (table : Table) (n : Within table) (w : World) (g : Good table w) where
       go asked.Nobody e r =
           let who = some-runnable (w .threads) (subst (λ (x : Asked). Ready table x (w .threads)) e r) in
           let t : ThreadId = record { 0 = who .0 } in
-          let within = runnable-within table w g step-on t (who .1) in
-          let some : 0 < leftIn (threadIn w t .phase) (opsAt table (t .0) (shape (threadIn w t))) = part-some (threadIn w t .phase) _ (sound-here table w g step-on t within) in
+          let within = runnable-within table w g n t (who .1) in
+          let some : 0 < leftIn (threadIn w t .phase) (opsAt table (t .0) (shape (threadIn w t))) = part-some (threadIn w t .phase) _ (sound-here table w g n t within) in
           let alive : leftAt table (t .0) (shape (threadIn w t)) ≡ leftIn (threadIn w t .phase) (opsAt table (t .0) (shape (threadIn w t))) =
           ap (λ (b : Bool). leftShape (record { position = threadIn w t .position; phase = threadIn w t .phase; ended = b }) (opsAt table (t .0) (shape (threadIn w t)))) (runs (threadIn w t .state) (who .1)) in
           let b : left table w ≡ total table 0 (shapes (w .threads)) - 0 = left-sum table w ∙ ap (λ (x : Asked). total table 0 (shapes (w .threads)) - askedOf x) e ∙ ap (λ (k : ℕ). total table 0 (shapes (w .threads)) - k) asked-none in
@@ -85,9 +78,6 @@ unfolding complete
 complete-left table n [] w g c = omega arith
 complete-left table n (d ∷ l) w g c = go (step table w d) refl c (λ v h k. complete-left table n l v h k)
   where
-    step-on : (k p : ℕ) → drop (risen 255 p) (opsOf table k) ≡ drop 1 (drop p (opsOf table k))
-    step-on k p = ops-next table k p (n .ops)
-
     alone : (m : List ℕ) → T (isNil m) → length m ≡ 0
     alone [] h = refl
     alone (x ∷ m) h = absurd h
@@ -97,8 +87,8 @@ complete-left table n (d ∷ l) w g c = go (step table w d) refl c (λ v h k. co
     go outcome.refused e h ih = absurd h
     go (outcome.done v) e h ih = omega (arith, alone l h, left-some table n w g)
     go (outcome.wants v) e h ih =
-        let f = falls table step-on w d v g e in
-        let i = ih v (keeps table step-on w d v g e) h in
+        let f = falls table n w d v g e in
+        let i = ih v (keeps table n w d v g e) h in
         omega (arith, f, i)
 
 -- at the start a thread that is there has at most 97 decisions before it
@@ -106,7 +96,7 @@ start-part : (table : Table) → Within table → (n k : ℕ) → leftAt table k
 unfolding startThread leftIn opsOf
 start-part table w n k =
     by-test (λ (t : Thread). leftAt table k (shape t) ≤ 97 * (n - k) - 97 * (n - suc k)) (ltb k n)
-    (λ e. omega (arith, length-take (getD (table .counts) k 0) (drop (32 * k) (table .ops)), w .most k, ltb-true k n e)) (λ e. omega arith)
+    (λ e. omega (arith, length-take (getD (table .counts) k 0) (drop (maxOperations * k) (table .ops)), w .most k, ltb-true k n e)) (λ e. omega arith)
 
 start-total : (table : Table) → Within table → (n k m : ℕ) → total table k (shapes (passFrom (startThread n) k (replicate m absent))) ≤ 97 * (n - k)
 start-total table w n k zero = omega arith
@@ -114,7 +104,7 @@ start-total table w n k (suc m) = omega (arith, start-part table w n k, start-to
 
 pub start-left : (table : Table) → Within table → left table (start table) ≤ 97 * table .«thread_count»
 unfolding start
-start-left table w = omega (arith, left-sum table (start table), start-total table w (table .«thread_count») 0 6)
+start-left table w = omega (arith, left-sum table (start table), start-total table w (table .«thread_count») 0 maxThreads)
 
 pub list-length : (table : Table) → Within table → 0 < table .«thread_count» → (list : List ℕ) → Complete table list → length list ≤ 97 * table .«thread_count»
 list-length table w some list c = omega (arith, complete-left table w list (start table) (start-good table w some) c, start-left table w)

@@ -2,11 +2,12 @@
 use mathlib.Core.Path.{_≡_, refl, sym, _∙_, ap, subst}
 use mathlib.Core.Bool.{true, false}
 use mathlib.Core.List.{List, [], _∷_}
-use Prim.Native.Nat.{ℕ, zero, suc, _+_, _-_, _<_}
+use Prim.Native.Nat.{ℕ, zero, suc, _+_, _<_}
 use native.Mathlib.Nat.{not-suc-le-zero, le-of-suc-le-suc, add-zero}
 use native.Mathlib.Omega.{arith}
 use lib.ListN.{length, getD, set, drop, length-set, length-map, List·getD-map}
 use lib.Seq.{getD-set-same}
+use Rattle.clocks.specs.Clock.{maxThreads}
 use Rattle.clocks.specs.declared.thread.ThreadId.{ThreadId}
 use Rattle.rules.specs.declared.thread.Phase.{Phase}
 use Rattle.rules.specs.declared.thread.Phase.the-variants as phase
@@ -17,7 +18,7 @@ use Rattle.rules.specs.declared.world.World.{World}
 use Rattle.rules.specs.Ground.{absent, threadAt, putThread}
 use Rattle.rules.specs.Table.{opsOf}
 use Rattle.rules.specs.Walk.{leftIn, leftOf, leftFrom}
-use Rattle.walk.specs.Shape.{Shape, shape, shapes, Tidy, Keeps}
+use Rattle.theorems.specs.Shape.{Shape, shape, shapes, TidyOne, Tidy, Keeps}
 
 -- a shape's part of the falling number
 abbrev pub leftShape : Shape → List Op → ℕ
@@ -89,7 +90,7 @@ sounds-at table k (x ∷ ss) zero d a l = subst (λ (j : ℕ). Sound table j x) 
 sounds-at table k (x ∷ ss) (suc i) d a l =
     let e : suc k + i ≡ k + suc i = omega arith in subst (λ (j : ℕ). Sound table j (getD ss i d)) e (sounds-at table (suc k) ss i d (a .1) (le-of-suc-le-suc l))
 
-tidy-set : (ss : List Shape) (i : ℕ) (s : Shape) → Tidy ss → (s .ended ≡ true → s .phase ≡ phase.Nothing) → Tidy (set ss i s)
+tidy-set : (ss : List Shape) (i : ℕ) (s : Shape) → Tidy ss → TidyOne s → Tidy (set ss i s)
 tidy-set [] i s a h = tt
 tidy-set (x ∷ ss) zero s a h = (h, a .1)
 tidy-set (x ∷ ss) (suc i) s a h = (a .0, tidy-set ss i s (a .1) h)
@@ -101,13 +102,13 @@ map-set (t ∷ ts) (suc i) x = λ j. shape t ∷ map-set ts i x j
 
 -- the threads, with t in the shape s and the others' falling numbers R in all
 pub record Stage (table : Table) (t : ThreadId) (R : ℕ) (s : Shape) (ts : List Thread) : Type 0 where
-  pub long : length ts ≡ 6
+  pub long : length ts ≡ maxThreads
   pub tidy : Tidy (shapes ts)
   pub sounds : Sounds table 0 (shapes ts)
   pub here : shape (threadAt ts t) ≡ s
   pub rest : total table 0 (shapes ts) ≡ R + leftAt table (t .0) s
 
-module _ (table : Table) (t : ThreadId) (R : ℕ) (s : Shape) (ts : List Thread) (g : Stage table t R s ts) (within : t .0 < 6) where
+module _ (table : Table) (t : ThreadId) (R : ℕ) (s : Shape) (ts : List Thread) (g : Stage table t R s ts) (within : t .0 < maxThreads) where
   pub stage-keeps : (us : List Thread) → Keeps ts us → Stage table t R s us
   stage-keeps us k =
       record {
@@ -118,7 +119,7 @@ module _ (table : Table) (t : ThreadId) (R : ℕ) (s : Shape) (ts : List Thread)
         rest = ap (total table 0) k ∙ g .rest;
       }
 
-  pub stage-put : (x : Thread) (z : Shape) → shape x ≡ z → (z .ended ≡ true → z .phase ≡ phase.Nothing) → Sound table (t .0) z → Stage table t R z (putThread ts t x)
+  pub stage-put : (x : Thread) (z : Shape) → shape x ≡ z → TidyOne z → Sound table (t .0) z → Stage table t R z (putThread ts t x)
   stage-put x z e h sound =
       record {
         long = length-set ts (t .0) x ∙ g .long;

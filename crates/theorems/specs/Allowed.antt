@@ -20,9 +20,8 @@ use Rattle.rules.specs.Ground.{isRunnable}
 use Rattle.rules.specs.Table.{noOp}
 use Rattle.rules.specs.TableLaws.{split}
 use Rattle.rules.specs.TurnLaws.{Said, after-said, turn-said}
-use Rattle.rules.specs.Turn.{threadIn, entryIn, withAsked, withThreads, announceOp, spurious, afterTurn, turnOf, opsLeft, begin, question, decideAt, decide}
+use Rattle.rules.specs.Turn.{threadIn, entryIn, withAsked, withThreads, announceOp, spurious, afterTurn, turnOf, opsLeft, begin, question, decideAt, isAllowed, decide}
 use Rattle.rules.specs.Judge.{outcomeOf, step}
-use Rattle.turns.specs.Step.{isAllowed}
 
 -- what is said is allowed
 said-allowed : (r : Decided) → Said (r .step) → allowedb (outcomeOf (r .step) (r .world)) ≡ true

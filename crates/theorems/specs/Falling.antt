@@ -8,7 +8,7 @@ use native.Mathlib.Nat.{not-suc-le-zero, le-of-suc-le-suc, add-zero}
 use borrow.Author.Tests.{ltb-true, ltb-false}
 use lib.Dec.{eqb, ltb}
 use lib.ListN.{length, getD, drop, length-map, List·getD-map, List·getD-eq-default}
-use Rattle.clocks.specs.Clock.{risen}
+use Rattle.clocks.specs.Clock.{maxThreads, risen}
 use Rattle.clocks.specs.declared.thread.ThreadId.{ThreadId}
 use Rattle.rules.specs.declared.object.ObjectId.{ObjectId}
 use Rattle.rules.specs.declared.object.Entry.{Entry}
@@ -16,13 +16,15 @@ use Rattle.rules.specs.declared.object.Ending.{Ending}
 use Rattle.rules.specs.declared.object.Ending.the-variants as ending
 use Rattle.rules.specs.declared.object.Action.the-variants as action
 use Rattle.rules.specs.declared.mutex.Call.the-variants as mutex-call
-use Rattle.rules.specs.declared.condvar.Call.the-variants as condvar-call
+use Rattle.rules.specs.declared.condvar.Wait.{Wait}
+use Rattle.rules.specs.declared.condvar.Wait.the-variants.{On, Nowhere}
 use Rattle.rules.specs.declared.thread.State.{State}
 use Rattle.rules.specs.declared.thread.State.the-variants as state
 use Rattle.rules.specs.declared.thread.Phase.{Phase}
 use Rattle.rules.specs.declared.thread.Phase.the-variants as phase
 use Rattle.rules.specs.declared.thread.Thread.{Thread}
-use Rattle.rules.specs.declared.thread.Change.the-variants.{Wake}
+use Rattle.rules.specs.declared.thread.Answered.{Answered}
+use Rattle.rules.specs.declared.thread.Answered.the-variants.{Kept}
 use Rattle.rules.specs.declared.table.Call.{Call}
 use Rattle.rules.specs.declared.table.Call.the-variants.{Mutex, RwLock, Condvar, Notify, Channel, Arc, Cell}
 use Rattle.rules.specs.declared.table.Op.{Op}
@@ -34,28 +36,27 @@ use Rattle.rules.specs.declared.world.Step.{Step}
 use Rattle.rules.specs.declared.world.Step.the-variants.{Refused, Done, Wants}
 use Rattle.rules.specs.declared.world.World.{World}
 use Rattle.rules.specs.declared.world.Decided.{Decided}
-use Rattle.rules.specs.declared.world.Effect.{Effect}
-use Rattle.rules.specs.Ground.{absent, threadAt, putThread, withPhase, withState, withDependence, setRunnable, setBlocked, isRunnable, hasUnpark, isEnded}
-use Rattle.rules.specs.Object.{announced, putMutex}
+use Rattle.rules.specs.Ground.{absent, threadAt, putThread, withPhase, withState, withPosition, withDependence, setRunnable, setBlocked, isRunnable, hasUnpark, isEnded}
+use Rattle.rules.specs.Object.{announced}
 use Rattle.rules.specs.Mutex as mutex
-use Rattle.rules.specs.TableLaws.{by-test, split}
+use Rattle.rules.specs.TableLaws.{by-test, split, Within, step-on}
 use Rattle.rules.specs.Table.{noOp, opsOf}
-use Rattle.rules.specs.Announce.{isFree, actionOf, isDisabled, asks}
-use Rattle.rules.specs.Effect.{effect}
+use Rattle.rules.specs.Effect.{isFree, actionOf, isDisabled, asks, waitOf, Effect, effect}
 use Rattle.rules.specs.Turn.{threadIn, entryIn, withThreads, withTurn, withAsked, afterTurn, afterStep, allEnded, anyRunnable, announceOp, retake, dependence, operate, advance, ended, park, wait, settled, endingOf, goOn, thereafter, operation, mutexOf, turnOf, opsLeft, begin, spurious, question, decideAt, decide}
 use Rattle.rules.specs.Walk.{waitsFor, leftIn, askedOf, left}
-use Rattle.walk.specs.Shape.{Shape, shape, shapes, Tidy, effect-keeps, others-keeps}
-use Rattle.walk.specs.Stage.{SoundIn, opsAt, leftAt, total, Sound, Sounds, sounds-at, Stage, stage-keeps, stage-put, left-total}
+use Rattle.theorems.specs.Touches.{answering-by}
+use Rattle.theorems.specs.Shape.{Shape, shape, shapes, Tidy, effect-keeps}
+use Rattle.theorems.specs.Stage.{SoundIn, opsAt, leftAt, total, Sound, Sounds, sounds-at, Stage, stage-keeps, stage-put, left-total}
 
 -- who may decide: a runnable thread, or the one that is asked, which stands before a wait that might end spuriously
 abbrev pub Ready : Table → Asked → List Thread → Type 0
 Ready table asked.Nobody ts = anyRunnable ts ≡ true
-Ready table (asked.Thread t) ts = (t .0 < 6) × (shape (threadAt ts t) ≡ record { position = threadAt ts t .position; phase = phase.Nothing; ended = false })
-    × (0 < length (opsAt table (t .0) (shape (threadAt ts t)))) × (waitsFor (getD (opsAt table (t .0) (shape (threadAt ts t))) 0 noOp .call) ≡ 1)
+Ready table (asked.Thread t) ts = (t .0 < maxThreads) × (shape (threadAt ts t) ≡ record { position = threadAt ts t .position; phase = phase.Nothing; ended = false })
+    × (0 < length (opsAt table (t .0) (shape (threadAt ts t)))) × (waitsFor (waitOf (getD (opsAt table (t .0) (shape (threadAt ts t))) 0 noOp .call)) ≡ 1)
 
 -- a world that a run of an accepted table may reach, and in which a decision is wanted
 pub record Good (table : Table) (w : World) : Type 0 where
-  pub long : length (w .threads) ≡ 6
+  pub long : length (w .threads) ≡ maxThreads
   pub tidy : Tidy (shapes (w .threads))
   pub sounds : Sounds table 0 (shapes (w .threads))
   pub ready : Ready table (w .asked) (w .threads)
@@ -73,17 +74,10 @@ pub left-sum : (table : Table) (w : World) → left table w ≡ total table 0 (s
 unfolding left
 left-sum table w = ap (λ (n : ℕ). n - askedOf (w .asked)) (left-total table w)
 
-pub wait-small : (c : Call) → waitsFor c ≤ 1
+pub wait-small : (m : Wait) → waitsFor m ≤ 1
 unfolding waitsFor
-wait-small (Mutex c) = omega arith
-wait-small (RwLock c) = omega arith
-wait-small (Condvar (condvar-call.Wait m)) = omega arith
-wait-small (Condvar condvar-call.NotifyOne) = omega arith
-wait-small (Condvar condvar-call.NotifyAll) = omega arith
-wait-small (Notify c) = omega arith
-wait-small (Channel c) = omega arith
-wait-small (Arc c) = omega arith
-wait-small (Cell c) = omega arith
+wait-small Nowhere = omega arith
+wait-small (On m) = omega arith
 
 pub asked-one : (t : ThreadId) → askedOf (asked.Thread t) ≡ 1
 unfolding askedOf
@@ -94,7 +88,7 @@ unfolding askedOf
 asked-none = refl
 
 -- only a Notify wait asks
-asks-wait : (c : Call) (e : Entry) → asks c e ≡ true → waitsFor c ≡ 1
+asks-wait : (c : Call) (e : Entry) → asks c e ≡ true → waitsFor (waitOf c) ≡ 1
 unfolding asks waitsFor
 asks-wait (Mutex c) e h = refl
 asks-wait (RwLock c) e h = refl
@@ -104,7 +98,7 @@ asks-wait (Channel c) e h = refl
 asks-wait (Arc c) e h = refl
 asks-wait (Cell c) e h = refl
 
-acquires : waitsFor (Mutex mutex-call.AcquireLock) ≡ 0 → ⊥
+acquires : waitsFor Nowhere ≡ 0 → ⊥
 unfolding waitsFor
 acquires z = omega (arith, z)
 
@@ -112,7 +106,7 @@ acquires z = omega (arith, z)
 abbrev going : ℕ → Shape
 going p = record { position = p; phase = phase.Nothing; ended = false }
 
-module _ (table : Table) (t : ThreadId) (within : t .0 < 6) (R B : ℕ) where
+module _ (table : Table) (t : ThreadId) (within : t .0 < maxThreads) (R B : ℕ) where
   -- after the turn
   after-then : (s : Shape) (w : World) → w .asked ≡ asked.Nobody → Stage table t R s (w .threads) → R + leftAt table (t .0) s < B → After table B (afterTurn w)
   unfolding afterStep
@@ -141,15 +135,15 @@ module _ (table : Table) (t : ThreadId) (within : t .0 < 6) (R B : ℕ) where
   announced-shape p f q false x e = ap (λ (s : Shape). record { position = s .position; phase = q; ended = s .ended }) e
 
   announce-then : (p : ℕ) (op : Op) (e : Entry) (w : World) → w .asked ≡ asked.Nobody → Stage table t R (going p) (w .threads) → (ops : List Op) → drop p (opsOf table (t .0)) ≡ op ∷ ops
-      → R + 3 * suc (length ops) - waitsFor (op .call) < B → After table B (afterTurn (withThreads w (announceOp t op e (w .threads))))
+      → R + 3 * suc (length ops) - waitsFor (waitOf (op .call)) < B → After table B (afterTurn (withThreads w (announceOp t op e (w .threads))))
   unfolding announceOp leftIn
   announce-then p op e w nobody g ops q less =
       let z : Shape = record { position = p; phase = phase.Announced (record { obj = op .object; action = actionOf (op .call) }); ended = false } in
       let sound : 0 < length (drop p (opsOf table (t .0))) = rw q (omega arith) in
-      let n : leftAt table (t .0) z ≡ 3 * suc (length ops) - waitsFor (op .call) = ap (λ (os : List Op). 3 * length os - waitsFor (getD os 0 noOp .call)) q in
+      let n : leftAt table (t .0) z ≡ 3 * suc (length ops) - waitsFor (waitOf (op .call)) = ap (λ (os : List Op). 3 * length os - waitsFor (waitOf (getD os 0 noOp .call))) q in
       after-then z (withThreads w _) nobody
       (stage-put table t R (going p) (w .threads) g within _ z (announced-shape p phase.Nothing (z .phase) (isDisabled (op .call) e) (threadAt (w .threads) t) (g .here)) (λ f. absurd (false≢true f)) sound)
-      (omega (arith, n, less, wait-small (op .call)))
+      (omega (arith, n, less, wait-small (waitOf (op .call))))
 
   -- an ending: a failing step is a verdict
   ending-then : (e : Ending) (r : Decided) (s : Spot) (shown : World) → After table B r → After table B (endingOf e s shown r)
@@ -159,20 +153,23 @@ module _ (table : Table) (t : ThreadId) (within : t .0 < 6) (R B : ℕ) where
   ending-then ending.NoRoom r s shown h = tt
   ending-then (ending.Race x) r s shown h = tt
 
-  module _ (next : (p : ℕ) → drop (risen 255 p) (opsOf table (t .0)) ≡ drop 1 (drop p (opsOf table (t .0)))) where
+  module _ (limits : Within table) where
     -- one operation is done
-    advanced : (p : ℕ) (ts : List Thread) → Stage table t R (going p) ts → Stage table t R (going (risen 255 p)) (advance t ts)
+    advanced : (p : ℕ) (n : Answered) (ts : List Thread) → Stage table t R (going p) ts → Stage table t R (going (risen 255 p)) (advance t n ts)
     unfolding advance
-    advanced p ts g =
-        stage-put table t R (going p) ts g within _ (going (risen 255 p)) (ap (λ (s : Shape). record { position = risen 255 (s .position); phase = s .phase; ended = s .ended }) (g .here)) (λ f. absurd (false≢true f)) tt
+    advanced p n ts g =
+        answering-by (λ (x : Thread). Stage table t R (going (risen 255 p)) (putThread ts t (withPosition x (risen 255 (threadAt ts t .position))))) n (threadAt ts t)
+        (λ m.
+        stage-put table t R (going p) ts g within _ (going (risen 255 p))
+        (ap (λ (s : Shape). record { position = risen 255 (s .position); phase = s .phase; ended = s .ended }) (g .here)) (λ f. absurd (false≢true f)) tt)
 
     left-one : (p : ℕ) (op : Op) (later : List Op) → drop p (opsOf table (t .0)) ≡ op ∷ later → 0 < length (drop p (opsOf table (t .0)))
     left-one p op later q = rw q (omega arith)
 
     later-ops : (p : ℕ) (op : Op) (ops : List Op) → drop p (opsOf table (t .0)) ≡ op ∷ ops → drop (risen 255 p) (opsOf table (t .0)) ≡ ops
-    later-ops p op ops q = next p ∙ ap (λ (os : List Op). drop 1 os) q
+    later-ops p op ops q = step-on table limits (t .0) p ∙ ap (λ (os : List Op). drop 1 os) q
 
-    asked-then : (p : ℕ) (op : Op) (ops : List Op) (w : World) → Stage table t R (going p) (w .threads) → drop p (opsOf table (t .0)) ≡ op ∷ ops → waitsFor (op .call) ≡ 1
+    asked-then : (p : ℕ) (op : Op) (ops : List Op) (w : World) → Stage table t R (going p) (w .threads) → drop p (opsOf table (t .0)) ≡ op ∷ ops → waitsFor (waitOf (op .call)) ≡ 1
         → R + (3 * suc (length ops) + 1) ≤ B → Then table B Wants (withAsked w (asked.Thread t))
     unfolding leftIn
     asked-then p op ops w g q f room =
@@ -188,7 +185,7 @@ module _ (table : Table) (t : ThreadId) (within : t .0 < 6) (R B : ℕ) where
               within,
               g .here ∙ ap (λ (s : Shape). going (s .position)) (sym (g .here)),
               rw here (omega arith),
-              ap (λ (os : List Op). waitsFor (getD os 0 noOp .call)) here ∙ f,
+              ap (λ (os : List Op). waitsFor (waitOf (getD os 0 noOp .call))) here ∙ f,
             );
           },
           omega (arith, e, one, n, g .rest, room),
@@ -201,10 +198,10 @@ module _ (table : Table) (t : ThreadId) (within : t .0 < 6) (R B : ℕ) where
     go-then (op ∷ ops) p w nobody g q room =
         let e : Entry = entryIn w (op .object) in
         let r : Effect = effect (op .call) t (op .object) e (w .threads) in
-        let u : Stage table t R (going (risen 255 p)) (advance t (r .threads)) =
-        advanced p (r .threads) (stage-keeps table t R (going p) (w .threads) g within (r .threads) (effect-keeps t (op .object) e (w .threads) (g .tidy) (op .call))) in
+        let u : Stage table t R (going (risen 255 p)) (advance t (r .answer) (r .threads)) =
+        advanced p (r .answer) (r .threads) (stage-keeps table t R (going p) (w .threads) g within (r .threads) (effect-keeps t (op .object) e (w .threads) (g .tidy) (op .call))) in
         by-test (After table B) (isFree (op .call))
-        (λ f. ending-then (r .ending) _ _ w (go-then ops (risen 255 p) (withThreads (settled w (op .object) r) (advance t (r .threads))) nobody u (later-ops p op ops q) (omega (arith, room))))
+        (λ f. ending-then (r .ending) _ _ w (go-then ops (risen 255 p) (withThreads (settled w (op .object) r) (advance t (r .answer) (r .threads))) nobody u (later-ops p op ops q) (omega (arith, room))))
         (λ f.
         by-test (After table B) (asks (op .call) e) (λ a. asked-then p op ops w g q (asks-wait (op .call) e a) room)
         (λ a. announce-then p op e w nobody g ops q (omega (arith, room))))
@@ -244,44 +241,32 @@ module _ (table : Table) (t : ThreadId) (within : t .0 < 6) (R B : ℕ) where
 
     wait-then : (p : ℕ) (m : ObjectId) (w : World) → w .asked ≡ asked.Nobody → Stage table t R (going p) (w .threads) → (op : Op) (later : List Op)
         → drop p (opsOf table (t .0)) ≡ op ∷ later → R + 3 * suc (length later) ≤ B → After table B (afterTurn (settled w m (wait t m (entryIn w m) (w .threads))))
-    unfolding wait mutex.releaseLock
+    unfolding wait
     wait-then p m w nobody g op later q room =
-        let r = mutex.releaseLock t m (entryIn w m .mutex) (w .threads) in
-        let k = stage-keeps table t R (going p) (w .threads) g within (r .threads) (others-keeps Wake t m (w .threads) (g .tidy)) in
-        park-then p m (putMutex (entryIn w m) (r .state)) (settled w m (wait t m (entryIn w m) (w .threads))) (r .threads) nobody k op later q room
+        let r = effect (Mutex mutex-call.ReleaseLock) t m (entryIn w m) (w .threads) in
+        let k = stage-keeps table t R (going p) (w .threads) g within (r .threads) (effect-keeps t m (entryIn w m) (w .threads) (g .tidy) (Mutex mutex-call.ReleaseLock)) in
+        park-then p m (r .entry) (settled w m (wait t m (entryIn w m) (w .threads))) (r .threads) nobody k op later q room
 
-    thereafter-then : (c : Call) (p : ℕ) (w : World) → w .asked ≡ asked.Nobody → Stage table t R (going p) (w .threads) → (op : Op) (later : List Op)
-        → drop p (opsOf table (t .0)) ≡ op ∷ later → R + (3 * length later + 1) ≤ B → (waitsFor c ≡ 0 → R + 3 * suc (length later) ≤ B) → After table B (thereafter c t later w)
+    thereafter-then : (m : Wait) (n : Answered) (p : ℕ) (w : World) → w .asked ≡ asked.Nobody → Stage table t R (going p) (w .threads) → (op : Op) (later : List Op)
+        → drop p (opsOf table (t .0)) ≡ op ∷ later → R + (3 * length later + 1) ≤ B → (waitsFor m ≡ 0 → R + 3 * suc (length later) ≤ B) → After table B (thereafter m t n later w)
     unfolding thereafter waitsFor
-    thereafter-then c p w nobody g op later q room wide = go c wide
-      where
-        goes : After table B (goOn t later (withThreads w (advance t (w .threads))))
-        goes = go-then later (risen 255 p) (withThreads w (advance t (w .threads))) nobody (advanced p (w .threads) g) (later-ops p op later q) room
-
-        go : (c : Call) → (waitsFor c ≡ 0 → R + 3 * suc (length later) ≤ B) → After table B (thereafter c t later w)
-        go (Mutex c) wide = goes
-        go (RwLock c) wide = goes
-        go (Condvar (condvar-call.Wait m)) wide = wait-then p m w nobody g op later q (wide refl)
-        go (Condvar condvar-call.NotifyOne) wide = goes
-        go (Condvar condvar-call.NotifyAll) wide = goes
-        go (Notify c) wide = goes
-        go (Channel c) wide = goes
-        go (Arc c) wide = goes
-        go (Cell c) wide = goes
+    thereafter-then Nowhere n p w nobody g op later q room wide =
+        go-then later (risen 255 p) (withThreads w (advance t n (w .threads))) nobody (advanced p n (w .threads) g) (later-ops p op later q) room
+    thereafter-then (On m) n p w nobody g op later q room wide = wait-then p m w nobody g op later q (wide refl)
 
     -- an announced operation, or the retaking of a mutex
     operation-then : (op : Op) (p : ℕ) (f : Phase) (w : World) → w .asked ≡ asked.Nobody → Stage table t R (record { position = p; phase = f; ended = false }) (w .threads)
-        → (head : Op) (later : List Op) → drop p (opsOf table (t .0)) ≡ head ∷ later → R + (3 * length later + 1) ≤ B → (waitsFor (op .call) ≡ 0 → R + 3 * suc (length later) ≤ B)
+        → (head : Op) (later : List Op) → drop p (opsOf table (t .0)) ≡ head ∷ later → R + (3 * length later + 1) ≤ B → (waitsFor (waitOf (op .call)) ≡ 0 → R + 3 * suc (length later) ≤ B)
         → After table B (operation t op later w)
     unfolding operation operate
     operation-then op p f w nobody g head later q room wide =
         let n : ℕ = risen 65535 (w .turn) in
         let r : Effect = operate t op n (entryIn w (op .object)) (w .threads) in
-        let x : Thread = withDependence (threadIn w t) (dependence t (actionOf (op .call)) (entryIn w (op .object)) (threadIn w t)) in
+        let x : Thread = withDependence (threadIn w t) (dependence t (op .call) (entryIn w (op .object)) (threadIn w t)) in
         let a : Stage table t R (going p) (putThread (w .threads) t (withPhase x phase.Nothing)) =
         stage-put table t R _ (w .threads) g within (withPhase x phase.Nothing) (going p) (ap (λ (s : Shape). record { position = s .position; phase = phase.Nothing; ended = s .ended }) (g .here)) (λ f. absurd (false≢true f)) tt in
         let b : Stage table t R (going p) (r .threads) = stage-keeps table t R (going p) _ a within (r .threads) (effect-keeps t (op .object) _ _ (a .tidy) (op .call)) in
-        ending-then (r .ending) _ _ w (thereafter-then (op .call) p _ nobody b head later q room wide)
+        ending-then (r .ending) _ _ w (thereafter-then (waitOf (op .call)) (r .answer) p _ nobody b head later q room wide)
 
     -- the turn of a thread, by its phase
     turn-then : (f : Phase) (p : ℕ) (w : World) → w .asked ≡ asked.Nobody → Stage table t R (record { position = p; phase = f; ended = false }) (w .threads)
@@ -292,12 +277,12 @@ module _ (table : Table) (t : ThreadId) (within : t .0 < 6) (R B : ℕ) where
         go-then ops p _ nobody g q (omega (arith, b, n))
     turn-then (phase.Announced x) p w nobody g b [] q sound = absurd (omega (arith, sound))
     turn-then (phase.Announced x) p w nobody g b (op ∷ later) q sound =
-        let n : 3 * length (drop p (opsOf table (t .0))) - waitsFor (getD (drop p (opsOf table (t .0))) 0 noOp .call) ≡ 3 * suc (length later) - waitsFor (op .call) =
-        ap (λ (os : List Op). 3 * length os - waitsFor (getD os 0 noOp .call)) q in
-        operation-then op p (phase.Announced x) w nobody g op later q (omega (arith, b, n, wait-small (op .call))) (λ z. omega (arith, b, n, z))
+        let n : 3 * length (drop p (opsOf table (t .0))) - waitsFor (waitOf (getD (drop p (opsOf table (t .0))) 0 noOp .call)) ≡ 3 * suc (length later) - waitsFor (waitOf (op .call)) =
+        ap (λ (os : List Op). 3 * length os - waitsFor (waitOf (getD os 0 noOp .call))) q in
+        operation-then op p (phase.Announced x) w nobody g op later q (omega (arith, b, n, wait-small (waitOf (op .call)))) (λ z. omega (arith, b, n, z))
     turn-then phase.Parked p w nobody g b [] q sound = absurd (omega (arith, sound))
     turn-then phase.Parked p w nobody g b (op ∷ later) q sound =
-        let m : ObjectId = mutexOf (op .call) in
+        let m : ObjectId = mutexOf (waitOf (op .call)) in
         let k : 3 * length (drop p (opsOf table (t .0))) - 1 ≡ 3 * suc (length later) - 1 = ap (λ (os : List Op). 3 * length os - 1) q in
         retaken-then p phase.Parked m (entryIn w m) (withTurn w (risen 65535 (w .turn))) (w .threads) nobody g op later q (omega (arith, k, b))
     turn-then (phase.Retaking x) p w nobody g b [] q sound = absurd (omega (arith, sound))
@@ -326,12 +311,12 @@ total-at table k (x ∷ ss) (suc i) d l =
     let h = total-at table (suc k) ss i d (le-of-suc-le-suc l) in
     omega (arith, p, h)
 
-module _ (table : Table) (w : World) (g : Good table w) (next : (k p : ℕ) → drop (risen 255 p) (opsOf table k) ≡ drop 1 (drop p (opsOf table k))) where
+module _ (table : Table) (w : World) (g : Good table w) (limits : Within table) where
   -- the others' falling numbers
-  abbrev others : ThreadId → ℕ
+  abbrev pub others : ThreadId → ℕ
   others t = total table 0 (shapes (w .threads)) - leftAt table (t .0) (shape (threadIn w t))
 
-  staged : (t : ThreadId) → t .0 < 6 → Stage table t (others t) (shape (threadIn w t)) (w .threads)
+  pub staged : (t : ThreadId) → t .0 < maxThreads → Stage table t (others t) (shape (threadIn w t)) (w .threads)
   staged t within =
       let l : t .0 < length (shapes (w .threads)) = omega (arith, within, g .long, length-map (w .threads) shape) in
       let h = total-at table 0 (shapes (w .threads)) (t .0) (shape absent) l in
@@ -340,7 +325,7 @@ module _ (table : Table) (w : World) (g : Good table w) (next : (k p : ℕ) → 
       (λ i. leftAt table (z i) (List·getD-map shape (w .threads) (t .0) absent i)) in
       record { long = g .long; tidy = g .tidy; sounds = g .sounds; here = refl; rest = omega (arith, h, a) }
 
-  pub sound-here : (t : ThreadId) → t .0 < 6 → Sound table (t .0) (shape (threadIn w t))
+  pub sound-here : (t : ThreadId) → t .0 < maxThreads → Sound table (t .0) (shape (threadIn w t))
   sound-here t within =
       let l : t .0 < length (shapes (w .threads)) = omega (arith, within, g .long, length-map (w .threads) shape) in
       let z : 0 + t .0 ≡ t .0 = omega arith in
@@ -348,11 +333,11 @@ module _ (table : Table) (w : World) (g : Good table w) (next : (k p : ℕ) → 
       subst (λ (s : Shape). Sound table (t .0) s) (List·getD-map shape (w .threads) (t .0) absent) (subst (λ (j : ℕ). Sound table j (getD (shapes (w .threads)) (t .0) (shape absent))) z h)
 
   -- a thread that is not there is not runnable
-  pub runnable-within : (t : ThreadId) → isRunnable (threadIn w t .state) ≡ true → t .0 < 6
+  pub runnable-within : (t : ThreadId) → isRunnable (threadIn w t .state) ≡ true → t .0 < maxThreads
   runnable-within t r =
-      split (ltb (t .0) 6) (λ l. ltb-true (t .0) 6 l)
+      split (ltb (t .0) maxThreads) (λ l. ltb-true (t .0) maxThreads l)
       (λ l.
-      let out : length (w .threads) ≤ t .0 = omega (arith, g .long, ltb-false (t .0) 6 l) in
+      let out : length (w .threads) ≤ t .0 = omega (arith, g .long, ltb-false (t .0) maxThreads l) in
       absurd (false≢true (sym (ap (λ (x : Thread). isRunnable (x .state)) (List·getD-eq-default (w .threads) absent out)) ∙ r)))
 
   begin-then : (t : ThreadId) → w .asked ≡ asked.Nobody → After table (left table w) (begin table w t)
@@ -360,7 +345,7 @@ module _ (table : Table) (w : World) (g : Good table w) (next : (k p : ℕ) → 
   begin-then t nobody =
       by-test (After table (left table w)) (isRunnable (threadIn w t .state)) (λ r. go (runs (threadIn w t .state) r) (runnable-within t r)) (λ r. tt)
     where
-      go : isEnded (threadIn w t .state) ≡ false → t .0 < 6 → After table (left table w) (turnOf (threadIn w t .phase) t (opsLeft table w t) w)
+      go : isEnded (threadIn w t .state) ≡ false → t .0 < maxThreads → After table (left table w) (turnOf (threadIn w t .phase) t (opsLeft table w t) w)
       go e within =
           let p : ℕ = threadIn w t .position in
           let f : Phase = threadIn w t .phase in
@@ -368,7 +353,7 @@ module _ (table : Table) (w : World) (g : Good table w) (next : (k p : ℕ) → 
           let a : Stage table t (others t) (record { position = p; phase = f; ended = false }) (w .threads) =
           subst (λ (x : Shape). Stage table t (others t) x (w .threads)) s (staged t within) in
           let b : left table w ≡ total table 0 (shapes (w .threads)) = left-sum table w ∙ ap (λ (x : Asked). total table 0 (shapes (w .threads)) - askedOf x) nobody ∙ none in
-          turn-then table t within (others t) (left table w) (next (t .0)) f p w nobody a (b ∙ a .rest) (opsLeft table w t) refl (sound-here t within)
+          turn-then table t within (others t) (left table w) limits f p w nobody a (b ∙ a .rest) (opsLeft table w t) refl (sound-here t within)
         where
           none : total table 0 (shapes (w .threads)) - askedOf asked.Nobody ≡ total table 0 (shapes (w .threads))
           none = ap (λ (n : ℕ). total table 0 (shapes (w .threads)) - n) asked-none ∙ omega arith
@@ -397,7 +382,7 @@ module _ (table : Table) (w : World) (g : Good table w) (next : (k p : ℕ) → 
       answered [] q = absurd (omega (arith, r .2, ap (λ (os : List Op). length os) q))
       answered (op ∷ later) q =
           let head : getD (opsLeft table w t) 0 noOp ≡ op = ap (λ (os : List Op). getD os 0 noOp) q in
-          let one : waitsFor (getD (opsLeft table w t) 0 noOp .call) ≡ 1 = r .3 in
+          let one : waitsFor (waitOf (getD (opsLeft table w t) 0 noOp .call)) ≡ 1 = r .3 in
           let n : leftAt table (t .0) (going p) ≡ 3 * suc (length later) + 1 = going-left table t p (op ∷ later) q in
           announce-then table t (r .0) (others t) (left table w) p _ _ v refl a later
           (q ∙ ap (λ (x : Op). x ∷ later) (sym head)) (omega (arith, one, n, b, a .rest))
@@ -406,10 +391,10 @@ module _ (table : Table) (w : World) (g : Good table w) (next : (k p : ℕ) → 
       woken [] q = absurd (omega (arith, r .2, ap (λ (os : List Op). length os) q))
       woken (op ∷ later) q =
           let n : leftAt table (t .0) (going p) ≡ 3 * suc (length later) + 1 = going-left table t p (op ∷ later) q in
-          let m : leftAt table (t .0) (going (risen 255 p)) ≡ 3 * length later + 1 = going-left table t (risen 255 p) later (later-ops table t (r .0) (others t) (left table w) (next (t .0)) p op later q) in
+          let m : leftAt table (t .0) (going (risen 255 p)) ≡ 3 * length later + 1 = going-left table t (risen 255 p) later (later-ops table t (r .0) (others t) (left table w) limits p op later q) in
           let x : Stage table t (others t) (going p) (putThread (w .threads) t (setRunnable (threadIn w t))) =
           stage-put table t (others t) (going p) (w .threads) a (r .0) _ (going p) (ap (λ (s : Shape). record { position = s .position; phase = s .phase; ended = false }) (r .1)) (λ f. absurd (false≢true f)) tt in
-          let y = advanced table t (r .0) (others t) (left table w) (next (t .0)) p _ x in
+          let y = advanced table t (r .0) (others t) (left table w) limits p Kept _ x in
           after-then table t (r .0) (others t) (left table w) (going (risen 255 p)) _ refl y (omega (arith, n, m, b, a .rest))
 
   -- one decision

@@ -2,10 +2,11 @@
 use mathlib.Core.Path.{_≡_, refl, sym, subst}
 use mathlib.Core.Bool.{true, _||_}
 use mathlib.Core.List.{List}
-use Prim.Native.Nat.{ℕ, zero, suc, _<_}
+use Prim.Native.Nat.{ℕ, zero, suc, _-_, _<_}
 use lib.Dec.{ltb}
 use lib.ListN.{replicate}
 use borrow.Author.Tests.{lt-ltb}
+use Rattle.clocks.specs.Clock.{maxThreads}
 use Rattle.clocks.specs.Pass.{passFrom, pass-length}
 use Rattle.rules.specs.declared.table.Table.{Table}
 use Rattle.rules.specs.declared.thread.Phase.{Phase}
@@ -14,9 +15,9 @@ use Rattle.rules.specs.declared.thread.Thread.{Thread}
 use Rattle.rules.specs.Ground.{absent, isRunnable}
 use Rattle.rules.specs.TableLaws.{by-test, Within}
 use Rattle.rules.specs.Turn.{anyRunnable, startThread, start}
-use Rattle.walk.specs.Shape.{shape, shapes, Tidy}
-use Rattle.walk.specs.Stage.{SoundIn, opsAt, Sounds}
-use Rattle.walk.specs.Falling.{Good}
+use Rattle.theorems.specs.Shape.{shape, shapes, Tidy}
+use Rattle.theorems.specs.Stage.{SoundIn, opsAt, Sounds}
+use Rattle.theorems.specs.Falling.{Good}
 
 -- the start
 start-phase : (n k : ℕ) → startThread n k absent .phase ≡ phase.Nothing
@@ -36,10 +37,10 @@ unfolding start startThread anyRunnable
 start-good table w some =
     let n : ℕ = table .«thread_count» in
     record {
-      long = pass-length (startThread n) 0 (replicate 6 absent);
-      tidy = start-tidy n 0 6;
-      sounds = start-sounds table n 0 0 6;
-      ready = first (startThread n 0 absent) (rw (startThread, lt-ltb 0 n some)) (passFrom (startThread n) 1 (replicate 5 absent));
+      long = pass-length (startThread n) 0 (replicate maxThreads absent);
+      tidy = start-tidy n 0 maxThreads;
+      sounds = start-sounds table n 0 0 maxThreads;
+      ready = first (startThread n 0 absent) (rw (startThread, lt-ltb 0 n some)) (passFrom (startThread n) 1 (replicate (maxThreads - 1) absent));
     }
   where
     first : (t : Thread) → isRunnable (t .state) ≡ true → (ts : List Thread) → (isRunnable (t .state) || anyRunnable ts) ≡ true

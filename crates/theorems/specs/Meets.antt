@@ -3,7 +3,7 @@ use mathlib.Core.Path.{_≡_, refl, sym, _∙_, ap, subst}
 use mathlib.Core.List.{List}
 use Prim.Native.Nat.{ℕ, suc, _≤_, _<_}
 use lib.Dec.{T}
-use lib.ListN.{length, drop}
+use lib.ListN.{length}
 use Rattle.lists.specs.Judge.{Judged, notAllowed, surplus, unfinished, verdict, isVerdict, judge, judge-complete}
 use Rattle.lists.specs.Rules as lists
 use Rattle.lists.specs.Next as next
@@ -15,35 +15,30 @@ use Rattle.rules.specs.Turn.{start}
 use Rattle.rules.specs.Judge.{Verdict, step}
 use Rattle.rules.specs.Walk.{decisions, left, firstTable, firstOf, nextTable, nextJudged, nextOf}
 use Rattle.rules.specs.Demand.{Complete, First, FirstMust, Next, NextMust, NextOfList}
-use Rattle.walk.specs.Falling.{Good}
-use Rattle.walk.specs.Machine.{bounded, some-allowed, keeps, falls}
-use Rattle.walk.specs.Accepted.{start-good}
-use Rattle.rules.specs.TableLaws.{ops-next, Within, read-within}
-use Rattle.rules.specs.Table.{opsOf}
-use Rattle.clocks.specs.Clock.{risen}
+use Rattle.theorems.specs.Falling.{Good}
+use Rattle.theorems.specs.Machine.{bounded, some-allowed, keeps, falls}
+use Rattle.theorems.specs.Accepted.{start-good}
+use Rattle.rules.specs.TableLaws.{Within, read-within}
 
 module _ (table : Table) (w : Within table) (some : 0 < table .«thread_count») where
-  step-on : (k p : ℕ) → drop (risen 255 p) (opsOf table k) ≡ drop 1 (drop p (opsOf table k))
-  step-on k p = ops-next table k p (w .ops)
-
   good : Good table (start table)
   good = start-good table w some
 
   pub first-is : lists.IsFirst (step table) (start table) (next.firstOf (step table) decisions (left table) (start table))
-  first-is = next.first-first (step table) decisions (left table) (Good table) (bounded table step-on) (some-allowed table step-on) (keeps table step-on) (falls table step-on) (start table) good
+  first-is = next.first-first (step table) decisions (left table) (Good table) (bounded table w) (some-allowed table w) (keeps table w) (falls table w) (start table) good
 
   pub next-is : (list : List ℕ) → Complete table list → lists.Answers (step table) (start table) list (next.nextOf (step table) decisions (left table) (start table) list)
-  next-is list c = next.next-answers (step table) decisions (left table) (Good table) (bounded table step-on) (some-allowed table step-on) (keeps table step-on) (falls table step-on) (start table) list good c
+  next-is list c = next.next-answers (step table) decisions (left table) (Good table) (bounded table w) (some-allowed table w) (keeps table w) (falls table w) (start table) list good c
 
   -- every complete list is met, starting with "first" and going on with "next"
   pub reached : (list : List ℕ) → Complete table list
       → walk.Reached (next.firstOf (step table) decisions (left table) (start table)) (next.nextOf (step table) decisions (left table) (start table)) list
-  reached list c = walk.all-reached (step table) decisions (left table) (Good table) (bounded table step-on) (some-allowed table step-on) (keeps table step-on) (falls table step-on) (start table) list good c
+  reached list c = walk.all-reached (step table) decisions (left table) (Good table) (bounded table w) (some-allowed table w) (keeps table w) (falls table w) (start table) list good c
 
   -- and the walk of "first" and "next" meets every complete list once, if it is let go on for long enough
   pub met-once : (n : ℕ) (list : List ℕ) → length (walk.tree (step table) decisions (suc (left table (start table))) (start table)) ≤ n → Complete table list
       → walk.times list (walk.walk (step table) decisions (left table) n (start table)) ≡ 1
-  met-once n list l c = walk.walk-once (step table) decisions (left table) (Good table) (bounded table step-on) (some-allowed table step-on) (keeps table step-on) (falls table step-on) n (start table) list good l c
+  met-once n list l c = walk.walk-once (step table) decisions (left table) (Good table) (bounded table w) (some-allowed table w) (keeps table w) (falls table w) n (start table) list good l c
 
 -- a list whose judgement is a verdict is complete
 pub complete-told : (t : Table) (list : List ℕ) (v : Verdict) → judge (step t) 0 (start t) list ≡ verdict v → Complete t list

@@ -5,9 +5,9 @@ use mathlib.Core.Bool.{true, false, false≢true}
 use mathlib.Core.List.{List, [], _∷_}
 use Prim.Native.Nat.{ℕ, suc, _≤_, _<_}
 use native.Mathlib.Omega.{arith}
-use lib.ListN.{getD, drop, List·getD-eq-default}
+use lib.ListN.{getD, List·getD-eq-default}
 use borrow.Author.Tests.{lt-leb}
-use Rattle.clocks.specs.Clock.{risen}
+use Rattle.clocks.specs.Clock.{maxThreads}
 use Rattle.lists.specs.Rules.{Outcome, allowedb}
 use Rattle.lists.specs.Rules as outcome
 use Rattle.rules.specs.declared.thread.Thread.{Thread}
@@ -18,14 +18,12 @@ use Rattle.rules.specs.declared.world.Step.{Step}
 use Rattle.rules.specs.declared.world.Step.the-variants.{Refused, Done, Wants}
 use Rattle.rules.specs.declared.world.World.{World}
 use Rattle.rules.specs.Ground.{absent, isRunnable}
-use Rattle.rules.specs.TableLaws.{split}
-use Rattle.rules.specs.Table.{opsOf}
-use Rattle.rules.specs.Turn.{anyRunnable, decide}
+use Rattle.rules.specs.TableLaws.{split, Within}
+use Rattle.rules.specs.Turn.{anyRunnable, isAllowed, decide}
 use Rattle.rules.specs.Walk.{left}
 use Rattle.rules.specs.Judge.{Verdict, outcomeOf, step}
-use Rattle.turns.specs.Step.{isAllowed}
-use Rattle.walk.specs.Allowed.{allowed-is}
-use Rattle.walk.specs.Falling.{Good, Then, Ready, decide-then}
+use Rattle.theorems.specs.Allowed.{allowed-is}
+use Rattle.theorems.specs.Falling.{Good, Then, Ready, decide-then}
 
 -- a decision that is not allowed is refused
 refused-is : (o : Outcome World Verdict) → allowedb o ≡ false → o ≡ outcome.refused
@@ -39,8 +37,8 @@ unfolding anyRunnable
 some-runnable [] e = absurd (false≢true e)
 some-runnable (t ∷ ts) e = split (isRunnable (t .state)) (λ r. (0, r)) (λ r. let h = some-runnable ts (sym (rw (anyRunnable, r)) ∙ e) in (suc (h .0), h .1))
 
-module _ (table : Table) (next : (k p : ℕ) → drop (risen 255 p) (opsOf table k) ≡ drop 1 (drop p (opsOf table k))) where
-  pub bounded : (w : World) (d : ℕ) → Good table w → 6 ≤ d → step table w d ≡ outcome.refused
+module _ (table : Table) (n : Within table) where
+  pub bounded : (w : World) (d : ℕ) → Good table w → maxThreads ≤ d → step table w d ≡ outcome.refused
   bounded w d g h = refused-is (step table w d) (allowed-is table w d ∙ go (w .asked))
     where
       go : (a : Asked) → isAllowed a (w .threads) d ≡ false
@@ -64,8 +62,8 @@ module _ (table : Table) (next : (k p : ℕ) → drop (risen 255 p) (opsOf table
 
   pub keeps : (w : World) (d : ℕ) (w′ : World) → Good table w → step table w d ≡ outcome.wants w′ → Good table w′
   unfolding step
-  keeps w d w′ g e = kept w (decide table w d .step) (decide table w d .world) w′ (decide-then table w g next d) e .0
+  keeps w d w′ g e = kept w (decide table w d .step) (decide table w d .world) w′ (decide-then table w g n d) e .0
 
   pub falls : (w : World) (d : ℕ) (w′ : World) → Good table w → step table w d ≡ outcome.wants w′ → left table w′ < left table w
   unfolding step
-  falls w d w′ g e = kept w (decide table w d .step) (decide table w d .world) w′ (decide-then table w g next d) e .1
+  falls w d w′ g e = kept w (decide table w d .step) (decide table w d .world) w′ (decide-then table w g n d) e .1
