@@ -62,9 +62,9 @@ pub fn wait_of(call: Call) -> Wait
 pub fn set_last_access(access: Access, state: State) -> State
     ensures { λ r. ⌜ r ≡ setLastAccess access state ⌝ }
 {
-    let mut s = state;
-    s.last_access = access;
-    s
+    let mut next = state;
+    next.last_access = access;
+    next
 }
 
 // The first half of loom's wait: the active thread becomes the newest waiter, if there is room.

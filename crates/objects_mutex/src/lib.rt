@@ -45,7 +45,7 @@ pub fn is_free(call: Call) -> bool
 {
     match call {
         Call::AcquireLock => false,
-        Call::TryAcquireLock => false, // It is announced, and never blocked then.
+        Call::TryAcquireLock => false,
         Call::ReleaseLock => true,
     }
 }
@@ -57,7 +57,7 @@ pub fn is_disabled(call: Call, state: State) -> bool
     let lock = state.lock;
     match call {
         Call::AcquireLock => is_locked(lock),
-        Call::TryAcquireLock => false,
+        Call::TryAcquireLock => false, // It fails at its effect.
         Call::ReleaseLock => false,
     }
 }
@@ -65,9 +65,9 @@ pub fn is_disabled(call: Call, state: State) -> bool
 pub fn set_last_access(access: Access, state: State) -> State
     ensures { λ r. ⌜ r ≡ setLastAccess access state ⌝ }
 {
-    let mut s = state;
-    s.last_access = access;
-    s
+    let mut next = state;
+    next.last_access = access;
+    next
 }
 
 // The free mutex is taken: loads, and blocks every other thread that is announced on it.
@@ -80,6 +80,7 @@ fn post_acquire(
 ) -> Effect
     ensures { λ r. ⌜ r ≡ left active (taking active object answer state) threads ⌝ }
 {
+    let lock = Lock::Held(active);
     let last_access = state.last_access;
     let synchronize = state.synchronize;
     let loaded = sync_load(threads, active, synchronize);
@@ -87,7 +88,7 @@ fn post_acquire(
         ending: Ending::Fine,
         answer: answer,
         state: State {
-            lock: Lock::Held(active),
+            lock: lock,
             last_access: last_access,
             synchronize: synchronize,
         },
@@ -146,16 +147,17 @@ fn release_lock(
 ) -> Effect
     ensures { λ r. ⌜ r ≡ effect ReleaseLock active object state threads ⌝ }
 {
+    let lock = Lock::Free;
     let last_access = state.last_access;
     let clock = state.synchronize;
-    let synchronize = sync_store(threads, active, clock);
+    let stored = sync_store(threads, active, clock);
     Effect {
         ending: Ending::Fine,
         answer: Answered::Kept,
         state: State {
-            lock: Lock::Free,
+            lock: lock,
             last_access: last_access,
-            synchronize: synchronize,
+            synchronize: stored,
         },
         threads: others(threads, Change::Wake, active, object),
     }

@@ -128,8 +128,8 @@ pub fn is_disabled(call: Call, state: State) -> bool
     match call {
         Call::AcquireReadLock => is_write_locked(lock),
         Call::AcquireWriteLock => is_write_locked(lock) || is_read_locked(lock),
-        Call::TryAcquireReadLock => false,
-        Call::TryAcquireWriteLock => false,
+        Call::TryAcquireReadLock => false, // It fails at its effect.
+        Call::TryAcquireWriteLock => false, // It fails at its effect.
         Call::ReleaseReadLock => false,
         Call::ReleaseWriteLock => false,
     }
@@ -138,9 +138,9 @@ pub fn is_disabled(call: Call, state: State) -> bool
 pub fn set_last_access(access: Access, state: State) -> State
     ensures { λ r. ⌜ r ≡ setLastAccess access state ⌝ }
 {
-    let mut s = state;
-    s.last_access = access;
-    s
+    let mut next = state;
+    next.last_access = access;
+    next
 }
 
 // What fails leaves all as it was; of a try that fails only the answer changes.
@@ -166,6 +166,7 @@ fn post_acquire_read_lock(
 ) -> Effect
     ensures { λ r. ⌜ r ≡ left active (reading active object answer readers state) threads ⌝ }
 {
+    let lock = Locked::Read(with_reader(readers, active));
     let last_access = state.last_access;
     let synchronize = state.synchronize;
     let loaded = sync_load(threads, active, synchronize);
@@ -173,7 +174,7 @@ fn post_acquire_read_lock(
         ending: Ending::Fine,
         answer: answer,
         state: State {
-            lock: Locked::Read(with_reader(readers, active)),
+            lock: lock,
             last_access: last_access,
             synchronize: synchronize,
         },
@@ -191,6 +192,7 @@ fn post_acquire_write_lock(
 ) -> Effect
     ensures { λ r. ⌜ r ≡ left active (writing active object answer state) threads ⌝ }
 {
+    let lock = Locked::Write(active);
     let last_access = state.last_access;
     let synchronize = state.synchronize;
     let loaded = sync_load(threads, active, synchronize);
@@ -198,7 +200,7 @@ fn post_acquire_write_lock(
         ending: Ending::Fine,
         answer: answer,
         state: State {
-            lock: Locked::Write(active),
+            lock: lock,
             last_access: last_access,
             synchronize: synchronize,
         },
@@ -302,16 +304,17 @@ fn release_write_lock(
 ) -> Effect
     ensures { λ r. ⌜ r ≡ effect ReleaseWriteLock active object state threads ⌝ }
 {
+    let lock = Locked::Free;
     let last_access = state.last_access;
     let clock = state.synchronize;
-    let synchronize = sync_store(threads, active, clock);
+    let stored = sync_store(threads, active, clock);
     Effect {
         ending: Ending::Fine,
         answer: Answered::Kept,
         state: State {
-            lock: Locked::Free,
+            lock: lock,
             last_access: last_access,
-            synchronize: synchronize,
+            synchronize: stored,
         },
         threads: others(threads, Change::Wake, active, object),
     }

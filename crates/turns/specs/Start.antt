@@ -26,8 +26,8 @@ use Rattle.rules.specs.SheetLaws.{sheet-over}
 use Rattle.rules.specs.Judge.{Verdict, step, Given, untouched, shown, judgeTable, judgeOf}
 use Rattle.rules.specs.Table.{Read, refused, accepted, readTable, readOf}
 use Rattle.rules.specs.Turn.{start}
-use Rattle.turns_run.specs.declared.run.End.{End}
-use Rattle.turns_run.specs.declared.run.End.the-variants as end
+use Rattle.turns_run.specs.declared.End.{End}
+use Rattle.turns_run.specs.declared.End.the-variants as end
 use Rattle.turns_run.specs.Run.{ranOf}
 
 -- the objects are made in a pass over the store

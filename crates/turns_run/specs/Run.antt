@@ -33,9 +33,9 @@ use Rattle.turns_steps.specs.declared.step.Acting.the-variants.{Nobody, Moves, 
 use Rattle.turns_steps.specs.Step.{Scene, placeOf}
 use Rattle.turns_steps.specs.Quiet.{who}
 use Rattle.turns_steps.specs.Loud.{turnIn, askedIn, versionIn, changed, afterEffect, recordedIn, nextIn}
-use Rattle.turns_run.specs.declared.run.End.{End}
-use Rattle.turns_run.specs.declared.run.End.the-variants as end
-use Rattle.turns_run.specs.declared.run.Ran.{Ran}
+use Rattle.turns_run.specs.declared.End.{End}
+use Rattle.turns_run.specs.declared.End.the-variants as end
+use Rattle.turns_run.specs.declared.Ran.{Ran}
 
 -- whether an operation is left for a move, and the operation
 abbrev pub leftOf : Table → List Thread → Move → Bool

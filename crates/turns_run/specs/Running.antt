@@ -23,7 +23,7 @@ use Rattle.rules.specs.Judge.{outcomeOf, step}
 use Rattle.turns_steps.specs.declared.step.Move.{Move}
 use Rattle.turns_steps.specs.declared.step.Acting.{Acting}
 use Rattle.turns_steps.specs.declared.step.Acting.the-variants.{Nobody, Moves, Over, AllEnded, Done}
-use Rattle.turns_run.specs.declared.run.End.the-variants as end
+use Rattle.turns_run.specs.declared.End.the-variants as end
 use Rattle.turns_steps.specs.Step.{Scene, Moved, after, subject, act, placeOf, chosen}
 use Rattle.turns_run.specs.Run.{leftOf, opOf, decided, rest, Placed, Running, weight, nowhere, ranOf}
 use Rattle.turns_run.specs.RunLaws.{rest-end, rest-refused, rest-chosen, rest-over, rest-all-ended, rest-verdict, rest-surplus, rest-act, act-lighter, after-light, chosen-weight}

@@ -69,7 +69,7 @@ use Rattle.turns_steps.specs.declared.step.Acting.{Acting}
 use Rattle.turns_steps.specs.declared.step.Acting.the-variants.{Moves, InEffect, Over, Done}
 use Rattle.turns_steps.specs.Step as step
 use Rattle.turns_steps.specs.Step.{Scene, Moved, with, inTurn, spotIn, failing, advanced, thereafter, operation, act}
-use Rattle.turns_steps.specs.Quiet.{who, rests, not, stops, isQuiet}
+use Rattle.turns_steps.specs.Quiet.{who, isBegun, rests, not, stops, isQuiet}
 
 -- the operation that takes effect, the turn it is in, and who is asked then
 abbrev pub again : Phase → Op → Op
@@ -140,6 +140,18 @@ recordedIn (Begins t) c x e = setLastAccess c x e
 recordedIn (Answers t b) c x e = e
 recordedIn (Goes t p) c x e = e
 recordedIn (Waits t o) c x e = e
+
+pub recorded-begun : (m : Move) (c : Call) (x : Access) (e : Entry) → isBegun m ≡ true → setLastAccess c x e ≡ recordedIn m c x e
+recorded-begun (Begins t) c x e h = refl
+recorded-begun (Answers t b) c x e h = absurd (false≢true h)
+recorded-begun (Goes t p) c x e h = absurd (false≢true h)
+recorded-begun (Waits t o) c x e h = absurd (false≢true h)
+
+pub recorded-not : (m : Move) (c : Call) (x : Access) (e : Entry) → isBegun m ≡ false → e ≡ recordedIn m c x e
+recorded-not (Begins t) c x e h = absurd (false≢true (sym h))
+recorded-not (Answers t b) c x e h = refl
+recorded-not (Goes t p) c x e h = refl
+recorded-not (Waits t o) c x e h = refl
 
 -- who acts then: a failing step is a verdict, a wait goes on to its mutex, and a thread to its next operation
 unfoldable pub verdictOr : Ending → Spot → Acting → Acting
@@ -319,55 +331,56 @@ wakes-effect (Answers u b) c t o e ts h = refl
 wakes-effect (Goes u p) c t o e ts h = absurd (false≢true h)
 wakes-effect (Waits u m) c t o e ts h = absurd (false≢true h)
 
+-- an object with what an operation leaves of the state of its kind
+abbrev pub inMutex : MutexEffect → Entry → Effect
+inMutex r x = record { ending = r .ending; answer = r .answer; entry = putMutex x (r .state); threads = r .threads }
+
+abbrev pub inRwLock : RwLockEffect → Entry → Effect
+inRwLock r x = record { ending = r .ending; answer = r .answer; entry = putRwLock x (r .state); threads = r .threads }
+
+abbrev pub inCondvar : CondvarEffect → Entry → Effect
+inCondvar r x = record { ending = r .ending; answer = r .answer; entry = putCondvar x (r .state); threads = r .threads }
+
+abbrev pub inNotify : NotifyEffect → Entry → Effect
+inNotify r x = record { ending = r .ending; answer = r .answer; entry = putNotify x (r .state); threads = r .threads }
+
+abbrev pub inChannel : ChannelEffect → Entry → Effect
+inChannel r x = record { ending = r .ending; answer = r .answer; entry = putChannel x (r .state); threads = r .threads }
+
+abbrev pub inArc : ArcEffect → Entry → Effect
+inArc r x = record { ending = r .ending; answer = r .answer; entry = putArc x (r .state); threads = r .threads }
+
+abbrev pub inCell : CellEffect → Entry → Effect
+inCell r x = record { ending = r .ending; answer = r .answer; entry = putCell x (r .state); threads = r .threads }
+
 -- an operation of a kind: what the code makes of the object `e` as it reads it
 module _ {e it : Entry} (m : Move) (t : ThreadId) (o : ObjectId) (ts : List Thread) (awake : wakesSpuriously m ≡ false) (same : e ≡ it) where
   by-kind : {call c : Call} (r : Entry → Effect) → call ≡ c → effect c t o e ts ≡ r e → takesEffect m call t o it ts ≡ r it
   by-kind {call} {c} r h g = takes-effect m call t o it ts awake ∙ (λ i. effect (h i) t o (sym same i) ts) ∙ g ∙ ap r same
 
-  abbrev pub inMutex : MutexEffect → Entry → Effect
-  inMutex r x = record { ending = r .ending; answer = r .answer; entry = putMutex x (r .state); threads = r .threads }
-
   pub takes-mutex : {call : Call} {c : MutexCall} {r : MutexEffect} → call ≡ Mutex c → r ≡ mutex.effect c t o (e .mutex) ts → takesEffect m call t o it ts ≡ inMutex r it
   unfolding effect doing mutex.effect
   takes-mutex {r = r} h g = by-kind (inMutex r) h (ap (λ (y : MutexEffect). inMutex y e) (sym g))
-
-  abbrev pub inRwLock : RwLockEffect → Entry → Effect
-  inRwLock r x = record { ending = r .ending; answer = r .answer; entry = putRwLock x (r .state); threads = r .threads }
 
   pub takes-rwlock : {call : Call} {c : RwLockCall} {r : RwLockEffect} → call ≡ RwLock c → r ≡ rwlock.effect c t o (e .rwlock) ts → takesEffect m call t o it ts ≡ inRwLock r it
   unfolding effect doing rwlock.effect
   takes-rwlock {r = r} h g = by-kind (inRwLock r) h (ap (λ (y : RwLockEffect). inRwLock y e) (sym g))
 
-  abbrev pub inCondvar : CondvarEffect → Entry → Effect
-  inCondvar r x = record { ending = r .ending; answer = r .answer; entry = putCondvar x (r .state); threads = r .threads }
-
   pub takes-condvar : {call : Call} {c : CondvarCall} {r : CondvarEffect} → call ≡ Condvar c → r ≡ condvar.effect c t (e .condvar) ts → takesEffect m call t o it ts ≡ inCondvar r it
   unfolding effect doing condvar.effect
   takes-condvar {r = r} h g = by-kind (inCondvar r) h (ap (λ (y : CondvarEffect). inCondvar y e) (sym g))
-
-  abbrev pub inNotify : NotifyEffect → Entry → Effect
-  inNotify r x = record { ending = r .ending; answer = r .answer; entry = putNotify x (r .state); threads = r .threads }
 
   pub takes-notify : {call : Call} {c : NotifyCall} {r : NotifyEffect} → call ≡ Notify c → r ≡ notify.effect c t o (e .notify) ts → takesEffect m call t o it ts ≡ inNotify r it
   unfolding effect doing notify.effect
   takes-notify {r = r} h g = by-kind (inNotify r) h (ap (λ (y : NotifyEffect). inNotify y e) (sym g))
 
-  abbrev pub inChannel : ChannelEffect → Entry → Effect
-  inChannel r x = record { ending = r .ending; answer = r .answer; entry = putChannel x (r .state); threads = r .threads }
-
   pub takes-channel : {call : Call} {c : ChannelCall} {r : ChannelEffect} → call ≡ Channel c → r ≡ mpsc.effect c t o (e .channel) ts → takesEffect m call t o it ts ≡ inChannel r it
   unfolding effect doing mpsc.effect
   takes-channel {r = r} h g = by-kind (inChannel r) h (ap (λ (y : ChannelEffect). inChannel y e) (sym g))
 
-  abbrev pub inArc : ArcEffect → Entry → Effect
-  inArc r x = record { ending = r .ending; answer = r .answer; entry = putArc x (r .state); threads = r .threads }
-
   pub takes-arc : {call : Call} {c : ArcCall} {r : ArcEffect} → call ≡ Arc c → r ≡ arc.effect c t (e .arc) ts → takesEffect m call t o it ts ≡ inArc r it
   unfolding effect doing arc.effect
   takes-arc {r = r} h g = by-kind (inArc r) h (ap (λ (y : ArcEffect). inArc y e) (sym g))
-
-  abbrev pub inCell : CellEffect → Entry → Effect
-  inCell r x = record { ending = r .ending; answer = r .answer; entry = putCell x (r .state); threads = r .threads }
 
   pub takes-cell : {call : Call} {c : CellCall} {r : CellEffect} → call ≡ Cell c → r ≡ cell.effect c t (e .cell) ts → takesEffect m call t o it ts ≡ inCell r it
   unfolding effect doing cell.effect

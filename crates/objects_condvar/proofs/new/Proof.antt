@@ -1,5 +1,4 @@
 -- `new` meets its contract.
-
 use borrow.Author.Needs.{needs}
 use Rattle.objects_condvar.proofs.new.Statement.{statement}
 use Rattle.objects_condvar.proofs.new.Tie as tie

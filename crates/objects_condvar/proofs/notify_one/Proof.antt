@@ -1,6 +1,7 @@
 -- `notify_one` meets its contract: the count's test decides the definition's.
 use mathlib.Core.Path.{_∙_, ap}
 use Prim.Native.Nat.{_-_}
+use native.Mathlib.Omega.{arith}
 use borrow.Author.Tests.{eq-eqb, ne-eqb}
 use Rattle.clocks.specs.declared.thread.ThreadId.{ThreadId}
 use Rattle.rules.specs.declared.object.Ending.the-variants.{Fine}
@@ -13,7 +14,7 @@ use Rattle.objects_condvar.proofs.notify_one.Tie as tie
 
 returns : tie.Need-returns
 unfolding effect doing
-returns c = rw (effect, doing, eq-eqb _ _ (c .if1 .taken))
+returns c = let s = c .before .before .args .state in rw (effect, doing, eq-eqb (s .count) 0 (omega (arith, c .if1 .taken)))
 
 front-requires : tie.Need-front-requires
 front-requires c κs = search needs
@@ -35,7 +36,7 @@ returns-2 c =
     let some = c .before .before .before .before .before .if1 .left in
     let woken = c .unpark-thread .ensures ∙ ap (λ (t : ThreadId). unparkThread (a .active) t (a .threads)) (c .before .before .before .front .ensures) in
     (λ i. record { ending = Fine; answer = Kept; state = withWaiters s (s .count - 1) (c .before .before .pop-front .ensures i); threads = woken i })
-    ∙ rw (effect, doing, ne-eqb _ _ some)
+    ∙ rw (effect, doing, ne-eqb (s .count) 0 (λ e. omega (arith, some)))
 
 pub notify-one-spec : {M : Type 1} → statement M
 notify-one-spec =

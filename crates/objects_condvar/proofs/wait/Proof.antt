@@ -1,5 +1,7 @@
 -- `wait` meets its contract: the room's test decides the definition's.
+use native.Mathlib.Omega.{arith}
 use borrow.Author.Tests.{lt-ltb, le-ltb}
+use Rattle.rules.specs.Limits.{maxWaiters}
 use Rattle.rules.specs.Condvar.{doing, effect}
 use borrow.Author.Needs.{needs}
 use Rattle.objects_condvar.proofs.wait.Statement.{statement}
@@ -16,11 +18,11 @@ add-s c = search needs
 
 returns : tie.Need-returns
 unfolding effect doing
-returns c m = rw (effect, doing, lt-ltb _ _ (c .before .if1 .taken))
+returns c m = let s = c .before .before .before .args .state in rw (effect, doing, lt-ltb (s .count) maxWaiters (omega (arith, c .before .if1 .taken)))
 
 returns-2 : tie.Need-returns-2
 unfolding effect doing
-returns-2 c m = rw (effect, doing, le-ltb _ _ (c .if1 .left))
+returns-2 c m = let s = c .before .before .args .state in rw (effect, doing, le-ltb (s .count) maxWaiters (omega (arith, c .if1 .left)))
 
 pub wait-spec : {M : Type 1} → statement M
 wait-spec = tie.close (tie.spec cast-n element-set-from-active add-s returns returns-2)

@@ -1,5 +1,5 @@
 -- `leave` meets its contract: the test of the readers that are left decides the definition's.
-use mathlib.Core.Path.{sym, _∙_, ap}
+use mathlib.Core.Path.{_∙_, ap}
 use native.Mathlib.Omega.{arith}
 use borrow.Author.Tests.{eq-eqb, ne-eqb}
 use Rattle.clocks.specs.declared.clock.Clock.{Clock}

@@ -9,11 +9,11 @@ use borrow.Author.Needs.{needs}
 use Rattle.objects_rwlock.proofs.post_acquire_read_lock.Statement.{statement}
 use Rattle.objects_rwlock.proofs.post_acquire_read_lock.Tie as tie
 
-sync-load-requires : tie.Need-sync-load-requires
-sync-load-requires c κs = search needs
-
 with-reader-requires : tie.Need-with-reader-requires
 with-reader-requires c κs = search needs
+
+sync-load-requires : tie.Need-sync-load-requires
+sync-load-requires c κs = search needs
 
 others-requires : tie.Need-others-requires
 others-requires c κs = search needs
@@ -22,9 +22,8 @@ returns : tie.Need-returns
 returns c =
     let a = c .before .before .before .before .before .args in
     let s = a .state in
-    let blocked = c .others .ensures ∙ ap (others BlockWriters (a .active) (a .object)) (c .before .before .sync-load .ensures) in
-    λ i. record { ending = Fine; answer = a .answer; state = locked (Read (c .before .with-reader .ensures i)) (s .synchronize) s; threads = blocked i }
+    let blocked = c .others .ensures ∙ ap (others BlockWriters (a .active) (a .object)) (c .before .sync-load .ensures) in
+    λ i. record { ending = Fine; answer = a .answer; state = locked (Read (c .before .before .before .before .with-reader .ensures i)) (s .synchronize) s; threads = blocked i }
 
 pub post-acquire-read-lock-spec : {M : Type 1} → statement M
-post-acquire-read-lock-spec =
-    tie.close (tie.spec sync-load-requires with-reader-requires others-requires returns)
+post-acquire-read-lock-spec = tie.close (tie.spec with-reader-requires sync-load-requires others-requires returns)
