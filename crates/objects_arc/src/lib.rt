@@ -150,11 +150,12 @@ fn ref_dec(active: ThreadId, state: State, threads: [Thread; THREADS]) -> Effect
     s.ref_cnt = state.ref_cnt - 1;
     s.synchronize = synchronize;
     if s.ref_cnt == 0 {
+        let acquired = sync_load(threads, active, synchronize);
         return Effect {
             ending: Ending::Fine,
             answer: Answered::Left(1),
             state: s,
-            threads: sync_load(threads, active, synchronize),
+            threads: acquired,
         };
     }
     Effect {
@@ -170,11 +171,12 @@ fn inspect(active: ThreadId, answer: u16, state: State, threads: [Thread; THREAD
     ensures { λ r. ⌜ r ≡ left active (inspecting answer state) threads ⌝ }
 {
     let clock = state.synchronize;
+    let loaded = sync_load(threads, active, clock);
     Effect {
         ending: Ending::Fine,
         answer: Answered::Left(answer),
         state: state,
-        threads: sync_load(threads, active, clock),
+        threads: loaded,
     }
 }
 

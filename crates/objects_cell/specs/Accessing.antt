@@ -6,7 +6,7 @@ use Rattle.rules.specs.declared.object.Ending.{Ending}
 use Rattle.rules.specs.declared.object.Ending.the-variants.{Misuse}
 use Rattle.rules.specs.declared.thread.Answered.the-variants.{Kept}
 use Rattle.rules.specs.declared.cell.State.{State}
-use Rattle.rules.specs.Ground.{Touch, isFine, Does, does, fails}
+use Rattle.rules.specs.Ground.{Touch, isFine, does, fails}
 use Rattle.rules.specs.Cell.{accessing}
 
 module _ (misuse : Bool) (track : Ending) (s next : State) (xs : List Touch) where

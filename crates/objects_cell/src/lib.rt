@@ -1,6 +1,8 @@
-// loom's rt/cell.rs. A step that is misuse or races leaves the cell and the threads as they were.
+// loom's rt/cell.rs.
 ghost use mathlib.Core.Path.{_≡_};
-ghost use Rattle.rules.specs.Ground.{isFine, fails};
+ghost use mathlib.Core.List.{[]};
+ghost use Rattle.rules.specs.Ground.{isFine, does, fails};
+ghost use Rattle.rules.specs.declared.thread.Answered.the-variants.{Kept};
 ghost use Rattle.rules.specs.declared.cell.Call.the-variants.{StartRead, EndRead, StartWrite, EndWrite};
 ghost use Rattle.rules.specs.Cell.{new, isMisuse, racing, firstRace, trackRead, trackWrite, read, written, left, effect};
 use clocks::Ahead;
@@ -106,11 +108,23 @@ fn written(writing: bool, clock: Clock, state: State) -> State
     s
 }
 
+// A step that is misuse or races leaves the cell and the threads as they were.
 fn fails(ending: Ending, state: State, threads: [Thread; THREADS]) -> Effect
     ensures { λ r. ⌜ ((active : ThreadId) → r ≡ left active (fails ending state) threads) ⌝ }
 {
     Effect {
         ending: ending,
+        answer: Answered::Kept,
+        state: state,
+        threads: threads,
+    }
+}
+
+fn accessed(state: State, threads: [Thread; THREADS]) -> Effect
+    ensures { λ r. ⌜ ((active : ThreadId) → r ≡ left active (does Kept state []) threads) ⌝ }
+{
+    Effect {
+        ending: Ending::Fine,
         answer: Answered::Kept,
         state: state,
         threads: threads,
@@ -129,12 +143,8 @@ fn start_read(active: ThreadId, state: State, threads: [Thread; THREADS]) -> Eff
     if !is_fine(track) {
         return fails(track, state, threads);
     }
-    Effect {
-        ending: Ending::Fine,
-        answer: Answered::Kept,
-        state: read(one_more(state.is_reading), clock, state),
-        threads: own_count_up(threads, active),
-    }
+    let raised = own_count_up(threads, active);
+    accessed(read(one_more(state.is_reading), clock, state), raised)
 }
 
 // loom's drop of Reading.
@@ -144,17 +154,12 @@ fn end_read(active: ThreadId, state: State, threads: [Thread; THREADS]) -> Effec
     if is_misuse(Call::EndRead, state) {
         return fails(Ending::Misuse, state, threads);
     }
-    let clock = get(threads, active).clock;
-    let track = track_read(clock, state);
+    let own = get(threads, active).clock;
+    let track = track_read(own, state);
     if !is_fine(track) {
         return fails(track, state, threads);
     }
-    Effect {
-        ending: Ending::Fine,
-        answer: Answered::Kept,
-        state: read(one_less(state.is_reading), clock, state),
-        threads: threads,
-    }
+    accessed(read(one_less(state.is_reading), own, state), threads)
 }
 
 fn start_write(active: ThreadId, state: State, threads: [Thread; THREADS]) -> Effect
@@ -169,12 +174,8 @@ fn start_write(active: ThreadId, state: State, threads: [Thread; THREADS]) -> Ef
     if !is_fine(track) {
         return fails(track, state, threads);
     }
-    Effect {
-        ending: Ending::Fine,
-        answer: Answered::Kept,
-        state: written(true, clock, state),
-        threads: own_count_up(threads, active),
-    }
+    let raised = own_count_up(threads, active);
+    accessed(written(true, clock, state), raised)
 }
 
 // loom's drop of Writing.
@@ -184,17 +185,12 @@ fn end_write(active: ThreadId, state: State, threads: [Thread; THREADS]) -> Effe
     if is_misuse(Call::EndWrite, state) {
         return fails(Ending::Misuse, state, threads);
     }
-    let clock = get(threads, active).clock;
-    let track = track_write(clock, state);
+    let own = get(threads, active).clock;
+    let track = track_write(own, state);
     if !is_fine(track) {
         return fails(track, state, threads);
     }
-    Effect {
-        ending: Ending::Fine,
-        answer: Answered::Kept,
-        state: written(false, clock, state),
-        threads: threads,
-    }
+    accessed(written(false, own, state), threads)
 }
 
 pub fn effect(call: Call, active: ThreadId, state: State, threads: [Thread; THREADS]) -> Effect

@@ -51,7 +51,7 @@ fn is_empty(state: State) -> bool
 pub fn leaks(state: State) -> bool
     ensures { λ r. ⌜ r ≡ leaks state ⌝ }
 {
-    !is_empty(state)
+    state.msg_cnt != 0
 }
 
 pub fn action_of(call: Call) -> Action
@@ -115,11 +115,12 @@ fn send(active: ThreadId, object: ObjectId, state: State, threads: [Thread; THRE
     s.receiver_synchronize[i] = sender;
     // The first message wakes every other thread that is announced on the channel.
     if i == 0 {
+        let woken = others(threads, Change::Wake, active, object);
         return Effect {
             ending: Ending::Fine,
             answer: Answered::Kept,
             state: s,
-            threads: others(threads, Change::Wake, active, object),
+            threads: woken,
         };
     }
     Effect {
@@ -169,11 +170,12 @@ fn recv(active: ThreadId, object: ObjectId, state: State, threads: [Thread; THRE
     s.receiver_synchronize = rest;
     // The last message blocks every other announced receiver.
     if s.msg_cnt == 0 {
+        let blocked = others(loaded, Change::BlockReceivers, active, object);
         return Effect {
             ending: Ending::Fine,
             answer: Answered::Kept,
             state: s,
-            threads: others(loaded, Change::BlockReceivers, active, object),
+            threads: blocked,
         };
     }
     Effect {

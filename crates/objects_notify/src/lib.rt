@@ -84,11 +84,12 @@ fn notify(active: ThreadId, object: ObjectId, state: State, threads: [Thread; TH
     let mut s = state;
     s.notified = true;
     s.synchronize = synchronize;
+    let unparked = others(threads, Change::Unpark, active, object);
     Effect {
         ending: Ending::Fine,
         answer: Answered::Kept,
         state: s,
-        threads: others(threads, Change::Unpark, active, object),
+        threads: unparked,
     }
 }
 
@@ -105,13 +106,14 @@ fn wait(active: ThreadId, state: State, threads: [Thread; THREADS]) -> Effect
         };
     }
     let clock = state.synchronize;
+    let loaded = sync_load(threads, active, clock);
     let mut s = state;
     s.notified = false;
     Effect {
         ending: Ending::Fine,
         answer: Answered::Kept,
         state: s,
-        threads: sync_load(threads, active, clock),
+        threads: loaded,
     }
 }
 

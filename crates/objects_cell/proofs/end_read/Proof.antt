@@ -27,7 +27,8 @@ returns : tie.Need-returns
 unfolding effect doing
 returns c =
     let a = c .before .before .before .args in
-    let e : doing EndRead (a .active) (threadAt (a .threads) (a .active) .clock) (a .state) ≡ fails Misuse (a .state) = accessing-misused _ _ _ _ _ (sym (c .before .before .is-misuse .ensures) ∙ c .before .if1 .taken) in
+    let used = sym (c .before .before .is-misuse .ensures) ∙ c .before .if1 .taken in
+    let e : doing EndRead (a .active) (threadAt (a .threads) (a .active) .clock) (a .state) ≡ fails Misuse (a .state) = accessing-misused _ _ _ _ _ used in
     c .fails .ensures (a .active) ∙ sym (ap (λ (d : Does State). left (a .active) d (a .threads)) e)
 
 get-requires : tie.Need-get-requires
@@ -55,7 +56,8 @@ returns-2 c =
     let clock = ap (λ (x : Thread). x .clock) (g .get .ensures) in
     let track = t .track-read .ensures ∙ ap (λ (k : Clock). trackRead k s) clock in
     let used = sym (m .is-misuse .ensures) ∙ g .before .if1 .left in
-    let e : doing EndRead (a .active) by s ≡ fails (trackRead by s) s = accessing-raced _ _ _ _ _ used (sym (ap isFine track) ∙ sym (f .is-fine .ensures) ∙ not-true _ (c .before .if2 .taken)) in
+    let races = sym (ap isFine track) ∙ sym (f .is-fine .ensures) ∙ not-true _ (c .before .if2 .taken) in
+    let e : doing EndRead (a .active) by s ≡ fails (trackRead by s) s = accessing-raced _ _ _ _ _ used races in
     c .fails2 .ensures (a .active)
     ∙ ap (λ (x : Ending). left (a .active) (fails x s) (a .threads)) track
     ∙ sym (ap (λ (d : Does State). left (a .active) d (a .threads)) e)
@@ -66,10 +68,13 @@ one-less-requires c κs = search needs
 read-requires : tie.Need-read-requires
 read-requires c κs = search needs
 
+accessed-requires : tie.Need-accessed-requires
+accessed-requires c κs = search needs
+
 returns-3 : tie.Need-returns-3
 unfolding effect doing
 returns-3 c =
-    let f = c .before .before .before in
+    let f = c .before .before .before .before in
     let t = f .before in
     let g = t .before .before in
     let m = g .before .before in
@@ -79,9 +84,11 @@ returns-3 c =
     let clock = ap (λ (x : Thread). x .clock) (g .get .ensures) in
     let track = t .track-read .ensures ∙ ap (λ (k : Clock). trackRead k s) clock in
     let used = sym (m .is-misuse .ensures) ∙ g .before .if1 .left in
-    let e : doing EndRead (a .active) by s ≡ does Kept (read (s .«is_reading» - 1) by s) [] = accessing-went _ _ _ _ _ used (sym (ap isFine track) ∙ sym (f .is-fine .ensures) ∙ not-false _ (c .before .before .if2 .left)) in
-    let state = c .read .ensures ∙ (λ i. read (c .before .one-less .ensures i) (clock i) s) in
-    (λ i. record { ending = Fine; answer = Kept; state = state i; threads = a .threads })
+    let fine = sym (ap isFine track) ∙ sym (f .is-fine .ensures) ∙ not-false _ (c .before .before .before .if2 .left) in
+    let e : doing EndRead (a .active) by s ≡ does Kept (read (s .«is_reading» - 1) by s) [] = accessing-went _ _ _ _ _ used fine in
+    let state = c .before .read .ensures ∙ (λ i. read (c .before .before .one-less .ensures i) (clock i) s) in
+    c .accessed .ensures (a .active)
+    ∙ (λ i. record { ending = Fine; answer = Kept; state = state i; threads = a .threads })
     ∙ sym (ap (λ (d : Does State). left (a .active) d (a .threads)) e)
 
 pub end-read-spec : {M : Type 1} → statement M
@@ -98,4 +105,5 @@ end-read-spec =
     returns-2
     one-less-requires
     read-requires
+    accessed-requires
     returns-3)

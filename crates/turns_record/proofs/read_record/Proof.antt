@@ -50,10 +50,9 @@ returns-2 c =
     let k : ℕ = getD (a .bytes .now) (a .at) 0 in
     let long = c .before .before .before .before .body-length .ensures in
     let whole : leb (bodyLength k) (length rest) ≡ true = le-leb (bodyLength k) (length rest) (omega (arith, length-drop (a .at + 1) (a .bytes .now), long)) in
-    c .whole-record .ensures
-    ∙ (λ i. wholeRecord k (c .before .before .body-byte .ensures i) (c .before .body-byte2 .ensures i))
-    ∙ ap (λ (n : ℕ). wholeRecord k (bodyByte n rest 0) (bodyByte n rest 1)) long
-    ∙ rw (recordOf, whole)
+    let first : c .before .before .body-byte .result ≡ bodyByte (bodyLength k) rest 0 = c .before .before .body-byte .ensures ∙ ap (λ (n : ℕ). bodyByte n rest 0) long in
+    let second : c .before .body-byte2 .result ≡ bodyByte (bodyLength k) rest 1 = c .before .body-byte2 .ensures ∙ ap (λ (n : ℕ). bodyByte n rest 1) long in
+    c .whole-record .ensures ∙ rw (recordOf, whole, first, second)
 
 returns-3 : tie.Need-returns-3
 unfolding recordOf

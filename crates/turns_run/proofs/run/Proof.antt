@@ -9,7 +9,8 @@ use lib.Dec.{ltb}
 use lib.ListN.{length, getD, set, length-set, length-map, List·getD-eq-default}
 use lib.Seq.{set-getD, set-out}
 use borrow.Author.Tests.{not-true, not-false}
-use borrow.Author.Needs.{needs}
+use mir.Syntax.{w8}
+use borrow.Author.Needs.{needs, elem-fits-field}
 use Rattle.clocks.specs.Clock.{maxThreads}
 use Rattle.clocks.specs.Lists.{getD-within}
 use Rattle.clocks.specs.declared.thread.ThreadId.{ThreadId}
@@ -82,7 +83,7 @@ module _ (c : tie.At-loop Inv-loop μ-loop) where
   placed =
       record {
         all = sym (length-map (table .ops) _) ∙ c .before .before .before .before .good .0 .1 .1 .1 .1 .0 .1 .0 .1;
-        few = ?;
+        few = λ k. let h = elem-fits-field w8 w8 (table .counts) _ k (c .before .before .before .before .good .0 .1 .1 .1 .1 .1 .0 .1 .1) tt in omega (arith, h .fits);
       }
 
 -- whether a decision is allowed
@@ -782,11 +783,10 @@ loop-less-4 c = omega (arith, wakes-less (c .before .before .before .before .bef
 loop-again-4 : tie.Need-loop-again-4 Inv-loop μ-loop
 loop-again-4 c =
     let w = c .before .before .before .before .before in
-    let y : Entry = getD (es (here (loud w))) (about (loud w) .object .0) _ in
-    (
+    let y : Entry = getD (es (here (loud w))) (about (loud w) .object .0) _ in (
       wakes-kept w (c .before .before .before .before .if9 .taken) _
-      (ap (λ (s : NotifyState). putEntry (es (here (loud w))) (about (loud w) .object) (putNotify y s)) (c .spur .ensures)
-      ∙ ap (λ (z : Entry). putEntry (es (here (loud w))) (about (loud w) .object) (putNotify z (spur (z .notify)))) (there w _ (c .before .before .before .if10 .taken))),
+          (ap (λ (s : NotifyState). putEntry (es (here (loud w))) (about (loud w) .object) (putNotify y s)) (c .spur .ensures)
+          ∙ ap (λ (z : Entry). putEntry (es (here (loud w))) (about (loud w) .object) (putNotify z (spur (z .notify)))) (there w _ (c .before .before .before .if10 .taken))),
       six (here (loud w)),
     )
 
@@ -832,10 +832,9 @@ loop-less-6 c = omega (arith, mutex-less (c .before .before .before .before .bef
 loop-again-6 : tie.Need-loop-again-6 Inv-loop μ-loop
 loop-again-6 c =
     let r = c .before .before .before .before .before .before in
-    let w = mutex-at r in
-    (
+    let w = mutex-at r in (
       mutex-kept r (sym (c .before .before .before .before .before .is-fine .ensures) ∙ c .before .before .before .before .if12 .taken) _
-      (ap (λ (y : Entry). putEntry (es (here (loud w))) (about (loud w) .object) (putMutex y (r .before .effect .result .state))) (there w _ (c .before .before .if13 .taken))),
+          (ap (λ (y : Entry). putEntry (es (here (loud w))) (about (loud w) .object) (putMutex y (r .before .effect .result .state))) (there w _ (c .before .before .if13 .taken))),
       mutex-full r,
     )
 
@@ -887,10 +886,9 @@ loop-less-9 c = omega (arith, rwlock-less (c .before .before .before .before .be
 loop-again-9 : tie.Need-loop-again-9 Inv-loop μ-loop
 loop-again-9 c =
     let r = c .before .before .before .before .before .before in
-    let w = rwlock-at r in
-    (
+    let w = rwlock-at r in (
       rwlock-kept r (sym (c .before .before .before .before .before .is-fine2 .ensures) ∙ c .before .before .before .before .if15 .taken) _
-      (ap (λ (y : Entry). putEntry (es (here (loud w))) (about (loud w) .object) (putRwLock y (r .before .effect2 .result .state))) (there w _ (c .before .before .if16 .taken))),
+          (ap (λ (y : Entry). putEntry (es (here (loud w))) (about (loud w) .object) (putRwLock y (r .before .effect2 .result .state))) (there w _ (c .before .before .if16 .taken))),
       rwlock-full r,
     )
 
@@ -942,10 +940,9 @@ loop-less-12 c = omega (arith, condvar-less (c .before .before .before .before .
 loop-again-12 : tie.Need-loop-again-12 Inv-loop μ-loop
 loop-again-12 c =
     let r = c .before .before .before .before .before .before in
-    let w = condvar-at r in
-    (
+    let w = condvar-at r in (
       condvar-kept r (sym (c .before .before .before .before .before .is-fine3 .ensures) ∙ c .before .before .before .before .if18 .taken) _
-      (ap (λ (y : Entry). putEntry (es (here (loud w))) (about (loud w) .object) (putCondvar y (r .before .effect3 .result .state))) (there w _ (c .before .before .if19 .taken))),
+          (ap (λ (y : Entry). putEntry (es (here (loud w))) (about (loud w) .object) (putCondvar y (r .before .effect3 .result .state))) (there w _ (c .before .before .if19 .taken))),
       condvar-full r,
     )
 
@@ -997,10 +994,9 @@ loop-less-15 c = omega (arith, notify-less (c .before .before .before .before .b
 loop-again-15 : tie.Need-loop-again-15 Inv-loop μ-loop
 loop-again-15 c =
     let r = c .before .before .before .before .before .before in
-    let w = notify-at r in
-    (
+    let w = notify-at r in (
       notify-kept r (sym (c .before .before .before .before .before .is-fine4 .ensures) ∙ c .before .before .before .before .if21 .taken) _
-      (ap (λ (y : Entry). putEntry (es (here (loud w))) (about (loud w) .object) (putNotify y (r .before .effect4 .result .state))) (there w _ (c .before .before .if22 .taken))),
+          (ap (λ (y : Entry). putEntry (es (here (loud w))) (about (loud w) .object) (putNotify y (r .before .effect4 .result .state))) (there w _ (c .before .before .if22 .taken))),
       notify-full r,
     )
 
@@ -1052,10 +1048,9 @@ loop-less-18 c = omega (arith, channel-less (c .before .before .before .before .
 loop-again-18 : tie.Need-loop-again-18 Inv-loop μ-loop
 loop-again-18 c =
     let r = c .before .before .before .before .before .before in
-    let w = channel-at r in
-    (
+    let w = channel-at r in (
       channel-kept r (sym (c .before .before .before .before .before .is-fine5 .ensures) ∙ c .before .before .before .before .if24 .taken) _
-      (ap (λ (y : Entry). putEntry (es (here (loud w))) (about (loud w) .object) (putChannel y (r .before .effect5 .result .state))) (there w _ (c .before .before .if25 .taken))),
+          (ap (λ (y : Entry). putEntry (es (here (loud w))) (about (loud w) .object) (putChannel y (r .before .effect5 .result .state))) (there w _ (c .before .before .if25 .taken))),
       channel-full r,
     )
 
@@ -1107,10 +1102,9 @@ loop-less-21 c = omega (arith, arc-less (c .before .before .before .before .befo
 loop-again-21 : tie.Need-loop-again-21 Inv-loop μ-loop
 loop-again-21 c =
     let r = c .before .before .before .before .before .before in
-    let w = arc-at r in
-    (
+    let w = arc-at r in (
       arc-kept r (sym (c .before .before .before .before .before .is-fine6 .ensures) ∙ c .before .before .before .before .if27 .taken) _
-      (ap (λ (y : Entry). putEntry (es (here (loud w))) (about (loud w) .object) (putArc y (r .before .effect6 .result .state))) (there w _ (c .before .before .if28 .taken))),
+          (ap (λ (y : Entry). putEntry (es (here (loud w))) (about (loud w) .object) (putArc y (r .before .effect6 .result .state))) (there w _ (c .before .before .if28 .taken))),
       arc-full r,
     )
 
@@ -1162,10 +1156,9 @@ loop-less-24 c = omega (arith, cell-less (c .before .before .before .before .bef
 loop-again-24 : tie.Need-loop-again-24 Inv-loop μ-loop
 loop-again-24 c =
     let r = c .before .before .before .before .before .before in
-    let w = cell-at r in
-    (
+    let w = cell-at r in (
       cell-kept r (sym (c .before .before .before .before .before .is-fine7 .ensures) ∙ c .before .before .before .before .if30 .taken) _
-      (ap (λ (y : Entry). putEntry (es (here (loud w))) (about (loud w) .object) (putCell y (r .before .effect7 .result .state))) (there w _ (c .before .before .if31 .taken))),
+          (ap (λ (y : Entry). putEntry (es (here (loud w))) (about (loud w) .object) (putCell y (r .before .effect7 .result .state))) (there w _ (c .before .before .if31 .taken))),
       cell-full r,
     )
 
@@ -1262,10 +1255,9 @@ loop-less-27 c = omega (arith, follow-less (tl (c .before .before .before .befor
 loop-again-27 : tie.Need-loop-again-27 Inv-loop μ-loop
 loop-again-27 c =
     let j = c .before .before .before .before .before .before .before .before in
-    let y : Entry = getD (es (at' (tl j))) (wk (tl j) .object .0) _ in
-    (
+    let y : Entry = getD (es (at' (tl j))) (wk (tl j) .object .0) _ in (
       recorded-there j (sym (c .before .before .before .before .before .before .is-begun2 .ensures) ∙ c .before .before .before .before .before .if36 .taken) (c .before .before .before .before .before .before .before .if35 .taken) _ _
-      (ap (putEntry (es (at' (tl j))) (wk (tl j) .object)) (recorded-mutex (access (tl j)) y (c .before .before .before .enum-told2 .given .1) _ (c .set-last-access .ensures))),
+          (ap (putEntry (es (at' (tl j))) (wk (tl j) .object)) (recorded-mutex (access (tl j)) y (c .before .before .before .enum-told2 .given .1) _ (c .set-last-access .ensures))),
       gone-full j,
     )
 
@@ -1293,10 +1285,9 @@ loop-less-28 c = omega (arith, follow-less (tl (c .before .before .before .befor
 loop-again-28 : tie.Need-loop-again-28 Inv-loop μ-loop
 loop-again-28 c =
     let j = c .before .before .before .before .before .before .before .before in
-    let y : Entry = getD (es (at' (tl j))) (wk (tl j) .object .0) _ in
-    (
+    let y : Entry = getD (es (at' (tl j))) (wk (tl j) .object .0) _ in (
       recorded-there j (sym (c .before .before .before .before .before .before .is-begun2 .ensures) ∙ c .before .before .before .before .before .if36 .taken) (c .before .before .before .before .before .before .before .if35 .taken) _ _
-      (ap (putEntry (es (at' (tl j))) (wk (tl j) .object)) (recorded-rwlock (access (tl j)) y (c .before .before .before .enum-told3 .given .1) _ (c .set-last-access2 .ensures))),
+          (ap (putEntry (es (at' (tl j))) (wk (tl j) .object)) (recorded-rwlock (access (tl j)) y (c .before .before .before .enum-told3 .given .1) _ (c .set-last-access2 .ensures))),
       gone-full j,
     )
 
@@ -1324,10 +1315,9 @@ loop-less-29 c = omega (arith, follow-less (tl (c .before .before .before .befor
 loop-again-29 : tie.Need-loop-again-29 Inv-loop μ-loop
 loop-again-29 c =
     let j = c .before .before .before .before .before .before .before .before in
-    let y : Entry = getD (es (at' (tl j))) (wk (tl j) .object .0) _ in
-    (
+    let y : Entry = getD (es (at' (tl j))) (wk (tl j) .object .0) _ in (
       recorded-there j (sym (c .before .before .before .before .before .before .is-begun2 .ensures) ∙ c .before .before .before .before .before .if36 .taken) (c .before .before .before .before .before .before .before .if35 .taken) _ _
-      (ap (putEntry (es (at' (tl j))) (wk (tl j) .object)) (recorded-condvar (access (tl j)) y (c .before .before .before .enum-told4 .given .1) _ (c .set-last-access3 .ensures))),
+          (ap (putEntry (es (at' (tl j))) (wk (tl j) .object)) (recorded-condvar (access (tl j)) y (c .before .before .before .enum-told4 .given .1) _ (c .set-last-access3 .ensures))),
       gone-full j,
     )
 
@@ -1355,10 +1345,9 @@ loop-less-30 c = omega (arith, follow-less (tl (c .before .before .before .befor
 loop-again-30 : tie.Need-loop-again-30 Inv-loop μ-loop
 loop-again-30 c =
     let j = c .before .before .before .before .before .before .before .before in
-    let y : Entry = getD (es (at' (tl j))) (wk (tl j) .object .0) _ in
-    (
+    let y : Entry = getD (es (at' (tl j))) (wk (tl j) .object .0) _ in (
       recorded-there j (sym (c .before .before .before .before .before .before .is-begun2 .ensures) ∙ c .before .before .before .before .before .if36 .taken) (c .before .before .before .before .before .before .before .if35 .taken) _ _
-      (ap (putEntry (es (at' (tl j))) (wk (tl j) .object)) (recorded-notify (access (tl j)) y (c .before .before .before .enum-told5 .given .1) _ (c .set-last-access4 .ensures))),
+          (ap (putEntry (es (at' (tl j))) (wk (tl j) .object)) (recorded-notify (access (tl j)) y (c .before .before .before .enum-told5 .given .1) _ (c .set-last-access4 .ensures))),
       gone-full j,
     )
 
@@ -1389,10 +1378,9 @@ loop-less-31 c = omega (arith, follow-less (tl (c .before .before .before .befor
 loop-again-31 : tie.Need-loop-again-31 Inv-loop μ-loop
 loop-again-31 c =
     let j = c .before .before .before .before .before .before .before .before .before .before in
-    let y : Entry = getD (es (at' (tl j))) (wk (tl j) .object .0) _ in
-    (
+    let y : Entry = getD (es (at' (tl j))) (wk (tl j) .object .0) _ in (
       recorded-there j (sym (c .before .before .before .before .before .before .before .before .is-begun2 .ensures) ∙ c .before .before .before .before .before .before .before .if36 .taken) (c .before .before .before .before .before .before .before .before .before .if35 .taken) _ _
-      (ap (putEntry (es (at' (tl j))) (wk (tl j) .object)) (recorded-channel (access (tl j)) y (c .before .before .before .before .before .work-call8 .given .1) _ (c .set-last-access5 .ensures ∙ ap (λ (a : ChannelAction). mpsc.setLastAccess a (access (tl j)) (y .channel)) (c .before .action-of .ensures)))),
+          (ap (putEntry (es (at' (tl j))) (wk (tl j) .object)) (recorded-channel (access (tl j)) y (c .before .before .before .before .before .work-call8 .given .1) _ (c .set-last-access5 .ensures ∙ ap (λ (a : ChannelAction). mpsc.setLastAccess a (access (tl j)) (y .channel)) (c .before .action-of .ensures)))),
       gone-full j,
     )
 
@@ -1423,10 +1411,9 @@ loop-less-32 c = omega (arith, follow-less (tl (c .before .before .before .befor
 loop-again-32 : tie.Need-loop-again-32 Inv-loop μ-loop
 loop-again-32 c =
     let j = c .before .before .before .before .before .before .before .before .before .before in
-    let y : Entry = getD (es (at' (tl j))) (wk (tl j) .object .0) _ in
-    (
+    let y : Entry = getD (es (at' (tl j))) (wk (tl j) .object .0) _ in (
       recorded-there j (sym (c .before .before .before .before .before .before .before .before .is-begun2 .ensures) ∙ c .before .before .before .before .before .before .before .if36 .taken) (c .before .before .before .before .before .before .before .before .before .if35 .taken) _ _
-      (ap (putEntry (es (at' (tl j))) (wk (tl j) .object)) (recorded-arc (access (tl j)) y (c .before .before .before .before .before .work-call9 .given .1) _ (c .set-last-access6 .ensures ∙ ap (λ (a : ArcAction). arc.setLastAccess a (access (tl j)) (y .arc)) (c .before .action-of2 .ensures)))),
+          (ap (putEntry (es (at' (tl j))) (wk (tl j) .object)) (recorded-arc (access (tl j)) y (c .before .before .before .before .before .work-call9 .given .1) _ (c .set-last-access6 .ensures ∙ ap (λ (a : ArcAction). arc.setLastAccess a (access (tl j)) (y .arc)) (c .before .action-of2 .ensures)))),
       gone-full j,
     )
 
@@ -1438,11 +1425,10 @@ loop-less-33 c = omega (arith, follow-less (tl (c .before .before .before .befor
 
 loop-again-33 : tie.Need-loop-again-33 Inv-loop μ-loop
 loop-again-33 c =
-    let j = c .before .before .before .before .before in
-    (
+    let j = c .before .before .before .before .before in (
       unrecorded j
-      (recorded-cell (access (tl j)) (its j) (c .enum-told6 .given .1)
-      ∙ recorded-begun (mv (tl j)) (wk (tl j) .call) (access (tl j)) (its j) (sym (c .before .before .before .is-begun2 .ensures) ∙ c .before .before .if36 .taken)),
+          (recorded-cell (access (tl j)) (its j) (c .enum-told6 .given .1)
+          ∙ recorded-begun (mv (tl j)) (wk (tl j) .call) (access (tl j)) (its j) (sym (c .before .before .before .is-begun2 .ensures) ∙ c .before .before .if36 .taken)),
       gone-full j,
     )
 

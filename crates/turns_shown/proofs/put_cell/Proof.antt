@@ -1,8 +1,9 @@
 -- `put_cell` meets its contract: the first three bytes, and a clock after the other.
 use mathlib.Core.Path.{refl, _∙_}
 use mathlib.Core.List.{List, [], _∷_, _++_}
-use Prim.Native.Nat.{ℕ}
+use Prim.Native.Nat.{ℕ, _+_}
 use lib.Seq.{sets}
+use Rattle.clocks.specs.Clock.{maxThreads}
 use Rattle.clocks.specs.Lists.{sets-then}
 use Rattle.rules.specs.Sheet.{clockBytes, cellBytes}
 use borrow.Author.Needs.{needs}
@@ -44,7 +45,7 @@ returns c =
     let f = c .before .before .before .before .before .before .before .before .before .before .before .flag in
     let head : List ℕ = 0x96 ∷ n .result ∷ f .result ∷ [] in
     let one = sets-then (a .sheet .now) (a .at) head (clockBytes (a .s .«read_access»)) 3 refl (c .before .before .before .before .before .before .before .before .before .before .put-three .ensures) (c .before .before .before .before .before .before .put-clock .ensures) in
-    sets-then (a .sheet .now) (a .at) (head ++ clockBytes (a .s .«read_access»)) (clockBytes (a .s .«write_access»)) 9 refl one (c .before .before .put-clock2 .ensures)
+    sets-then (a .sheet .now) (a .at) (head ++ clockBytes (a .s .«read_access»)) (clockBytes (a .s .«write_access»)) (3 + maxThreads) refl one (c .before .before .put-clock2 .ensures)
     ∙ (λ i. sets (a .sheet .now) (a .at) (0x96 ∷ n .ensures i ∷ f .ensures i ∷ clockBytes (a .s .«read_access») ++ clockBytes (a .s .«write_access»)))
 
 pub put-cell-spec : {M : Type 1} → statement M

@@ -1,8 +1,8 @@
 -- `put_channel` meets its contract.
 use mathlib.Core.Path.{refl}
 use mathlib.Core.List.{List, [], _∷_, _++_}
-use Prim.Native.Nat.{ℕ}
-use Rattle.clocks.specs.Clock.{zeroClock}
+use Prim.Native.Nat.{ℕ, _+_}
+use Rattle.clocks.specs.Clock.{maxThreads, zeroClock}
 use Rattle.clocks.specs.Lists.{sets-then}
 use Rattle.rules.specs.Limits.{maxMessages}
 use Rattle.rules.specs.Sheet.{clockBytes, each, filled, channelBytes}
@@ -37,7 +37,7 @@ returns c =
     let a = c .before .before .before .before .before .before .before .before .before .before .before .before .before .before .before .args in
     let head : List ℕ = 0x94 ∷ a .s .«msg_cnt» ∷ [] in
     let one = sets-then (a .sheet .now) (a .at) head (clockBytes (a .s .«sender_synchronize»)) 2 refl (c .before .before .before .before .before .before .before .before .before .before .put-two .ensures) (c .before .before .before .before .before .before .put-clock .ensures) in
-    sets-then (a .sheet .now) (a .at) (head ++ clockBytes (a .s .«sender_synchronize»)) (each clockBytes (filled zeroClock maxMessages (a .s .«receiver_synchronize»))) 8 refl one (c .before .before .put-messages .ensures)
+    sets-then (a .sheet .now) (a .at) (head ++ clockBytes (a .s .«sender_synchronize»)) (each clockBytes (filled zeroClock maxMessages (a .s .«receiver_synchronize»))) (2 + maxThreads) refl one (c .before .before .put-messages .ensures)
 
 pub put-channel-spec : {M : Type 1} → statement M
 put-channel-spec =

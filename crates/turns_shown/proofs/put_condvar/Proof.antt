@@ -2,6 +2,7 @@
 use mathlib.Core.Path.{refl}
 use mathlib.Core.List.{[], _∷_, map}
 use Rattle.clocks.specs.Lists.{sets-then}
+use Rattle.rules.specs.Limits.{maxWaiters}
 use Rattle.rules.specs.Sheet.{filled, number, condvarBytes}
 use borrow.Author.Needs.{needs}
 use Rattle.turns_shown.proofs.put_condvar.Statement.{statement}
@@ -23,7 +24,7 @@ returns : tie.Need-returns
 unfolding condvarBytes
 returns c =
     let a = c .before .before .before .before .before .before .before .before .before .before .args in
-    sets-then (a .sheet .now) (a .at) (0x92 ∷ a .s .count ∷ []) (filled 255 8 (map number (a .s .waiters))) 2 refl (c .before .before .before .before .before .before .put-two .ensures) (c .before .before .put-waiters .ensures)
+    sets-then (a .sheet .now) (a .at) (0x92 ∷ a .s .count ∷ []) (filled 255 maxWaiters (map number (a .s .waiters))) 2 refl (c .before .before .before .before .before .before .put-two .ensures) (c .before .before .put-waiters .ensures)
 
 pub put-condvar-spec : {M : Type 1} → statement M
 put-condvar-spec =

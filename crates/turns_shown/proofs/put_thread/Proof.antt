@@ -1,8 +1,9 @@
 -- `put_thread` meets its contract: past the end nothing, and otherwise the first five bytes, and a clock after the other.
 use mathlib.Core.Path.{refl, sym, _∙_}
 use mathlib.Core.List.{List, [], _∷_, _++_}
-use Prim.Native.Nat.{ℕ}
+use Prim.Native.Nat.{ℕ, _+_}
 use lib.Seq.{sets}
+use Rattle.clocks.specs.Clock.{maxThreads}
 use Rattle.clocks.specs.Lists.{sets-then}
 use Rattle.rules.specs.Sheet.{clockBytes, threadBytes}
 use borrow.Author.Needs.{needs}
@@ -60,7 +61,7 @@ returns-2 c =
     let two : List ℕ = p .result ∷ n .result ∷ [] in
     let head = sets-then (a .sheet .now) (a .at) three two 3 refl (c .before .before .before .before .before .before .before .before .before .before .before .before .before .before .before .before .put-three .ensures) (c .before .before .before .before .before .before .before .before .before .before .put-two .ensures) in
     let one = sets-then (a .sheet .now) (a .at) (three ++ two) (clockBytes (a .t .clock)) 5 refl head (c .before .before .before .before .before .before .put-clock .ensures) in
-    sets-then (a .sheet .now) (a .at) (three ++ two ++ clockBytes (a .t .clock)) (clockBytes (a .t .dependence)) 11 refl one (c .before .before .put-clock2 .ensures)
+    sets-then (a .sheet .now) (a .at) (three ++ two ++ clockBytes (a .t .clock)) (clockBytes (a .t .dependence)) (5 + maxThreads) refl one (c .before .before .put-clock2 .ensures)
     ∙ (λ i. sets (a .sheet .now) (a .at) (0x80 ∷ s .ensures i ∷ a .t .position ∷ p .ensures i ∷ n .ensures i ∷ clockBytes (a .t .clock) ++ clockBytes (a .t .dependence)))
 
 pub put-thread-spec : {M : Type 1} → statement M
