@@ -1,6 +1,6 @@
 -- `answer_of` meets its contract, an end at a time.
 use mathlib.Core.Path.{sym, ap}
-use Rattle.turns.specs.Run.{answerOf}
+use Rattle.turns.specs.Start.{answerOf}
 use borrow.Author.Needs.{needs}
 use Rattle.turns.proofs.answer_of.Statement.{statement}
 use Rattle.turns.proofs.answer_of.Tie as tie

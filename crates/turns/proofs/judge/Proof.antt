@@ -11,9 +11,9 @@ use Rattle.lists.specs.Judge.{judge}
 use Rattle.rules.specs.Judge.{step, untouched}
 use Rattle.rules.specs.Turn.{start}
 use Rattle.rules.specs.Sheet.{sheetLength}
-use Rattle.turns.specs.declared.Ran.{Ran}
-use Rattle.turns.specs.Run.{ranOf, showing}
-use Rattle.turns.specs.Start.{shows, judged-refused, judged-short, judged-shown}
+use Rattle.turns_run.specs.declared.Ran.{Ran}
+use Rattle.turns_run.specs.Run.{ranOf}
+use Rattle.turns.specs.Start.{showing, shows, judged-refused, judged-short, judged-shown}
 use borrow.Author.Needs.{needs}
 use Rattle.turns.proofs.judge.Statement.{statement}
 use Rattle.turns.proofs.judge.Tie as tie

@@ -8,7 +8,7 @@ use lib.Seq.{sets, length-sets}
 use lib.ListN.{length}
 use borrow.Author.Needs.{needs}
 use Rattle.rules.specs.Sheet.{sheetOf}
-use Rattle.turns.specs.Run.{isShown, showing}
+use Rattle.turns.specs.Start.{isShown, showing}
 use Rattle.turns.proofs.show.Statement.{statement}
 use Rattle.turns.proofs.show.Tie as tie
 

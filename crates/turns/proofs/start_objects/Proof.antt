@@ -11,15 +11,16 @@ use Rattle.rules.specs.declared.table.Made.{Made}
 use Rattle.rules.specs.declared.object.Entry.{Entry}
 use Rattle.rules.specs.Object.{noObject, newEntry}
 use Rattle.turns.specs.Start.{madeAt, made-all, isMade, left-out}
+use Rattle.rules.specs.Limits.{maxObjects}
 use borrow.Author.Needs.{needs}
 use Rattle.turns.proofs.start_objects.Statement.{statement}
 use Rattle.turns.proofs.start_objects.Tie as tie
 
 abbrev Inv-loop : tie.InvT-loop
-Inv-loop objects out₀ k₀ out k = (k ≤ 16) × (length objects ≡ 16) × (length out₀ ≡ 16) × (out ≡ passed (madeAt objects) k 0 out₀)
+Inv-loop objects out₀ k₀ out k = (k ≤ maxObjects) × (length objects ≡ maxObjects) × (length out₀ ≡ maxObjects) × (out ≡ passed (madeAt objects) k 0 out₀)
 
 abbrev μ-loop : tie.MeasureT-loop
-μ-loop objects out₀ k₀ out k = 16 - k
+μ-loop objects out₀ k₀ out k = maxObjects - k
 
 absent-requires : tie.Need-absent-requires Inv-loop μ-loop
 absent-requires c κs = search needs
@@ -27,8 +28,8 @@ absent-requires c κs = search needs
 loop-holds : tie.Need-loop-holds Inv-loop μ-loop
 loop-holds c =
     let ms : List Made = c .before .args .t1 in
-    let n : length ms ≡ 16 = search needs in
-    (omega arith, n, length-replicate 16 (c .absent .result), refl)
+    let n : length ms ≡ maxObjects = search needs in
+    (omega arith, n, length-replicate maxObjects (c .absent .result), refl)
 
 mul-made : tie.Need-mul-made Inv-loop μ-loop
 mul-made c = search needs
@@ -59,7 +60,7 @@ loop-again c =
     let l = c .before .before .before .before .loop in
     let ms : List Made = c .before .before .before .before .before .before .args .t1 in
     let absent = c .before .before .before .before .before .absent in
-    let es : List Entry = replicate 16 (absent .result) in
+    let es : List Entry = replicate maxObjects (absent .result) in
     let test = c .before .before .before .loop-test .taken in
     let within : l .k < length ms = omega (arith, l .inv .1, test) in
     let seen = getD-within ms (l .k) _ noObject within in
@@ -77,7 +78,7 @@ returns : tie.Need-returns Inv-loop μ-loop
 returns c =
     let l = c .before .loop in
     let ms : List Made = c .before .before .before .args .t1 in
-    let es : List Entry = replicate 16 (c .before .before .absent .result) in
+    let es : List Entry = replicate maxObjects (c .before .before .absent .result) in
     ended (madeAt ms) (l .k) es _ (omega (arith, l .inv .0, l .inv .2, c .loop-test .left)) (l .inv .3) ∙ made-all ms es (omega (arith, l .inv .1, l .inv .2))
 
 pub start-objects-spec : {M : Type 1} → statement M
