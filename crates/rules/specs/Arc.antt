@@ -16,10 +16,9 @@ use Rattle.rules.specs.declared.arc.RefModify.{RefModify}
 use Rattle.rules.specs.declared.arc.RefModify.the-variants as modify
 use Rattle.rules.specs.declared.arc.State.{State}
 use Rattle.rules.specs.declared.arc.Effect.{Effect}
-use Rattle.rules.specs.declared.thread.Answered.{Answered}
 use Rattle.rules.specs.declared.thread.Answered.the-variants.{Kept, Left}
 use Rattle.rules.specs.declared.thread.Thread.{Thread}
-use Rattle.rules.specs.Ground.{flag, noAccess, threadAt, stored, Touch, loads, touched, Does, does, fails}
+use Rattle.rules.specs.Ground.{flag, noAccess, threadAt, stored, loads, touched, Does, does, fails}
 
 -- "starts at 1"
 abbrev pub new : State

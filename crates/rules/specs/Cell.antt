@@ -9,7 +9,7 @@ use Rattle.clocks.specs.declared.clock.Ahead.{Ahead}
 use Rattle.clocks.specs.declared.clock.Ahead.the-variants.{Nobody, Threads}
 use Rattle.clocks.specs.declared.thread.ThreadId.{ThreadId}
 use Rattle.rules.specs.declared.object.Ending.{Ending}
-use Rattle.rules.specs.declared.object.Ending.the-variants.{Fine, Misuse, NoRoom, Race}
+use Rattle.rules.specs.declared.object.Ending.the-variants.{Fine, Misuse, Race}
 use Rattle.rules.specs.declared.cell.Call.{Call}
 use Rattle.rules.specs.declared.cell.Call.the-variants.{StartRead, EndRead, StartWrite, EndWrite}
 use Rattle.rules.specs.declared.cell.State.{State}

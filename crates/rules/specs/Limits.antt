@@ -23,6 +23,13 @@ maxWaiters = 8
 abbrev pub maxList : ℕ
 maxList = 97 * maxThreads
 
+-- the sheet's records: a thread's, and an object's longest, a channel's
+abbrev pub threadRecord : ℕ
+threadRecord = 5 + 2 * maxThreads
+
+abbrev pub channelRecord : ℕ
+channelRecord = 2 + maxThreads + maxMessages * maxThreads
+
 -- "Never above 1,766 bytes."
 abbrev pub maxSheet : ℕ
-maxSheet = 17 * maxThreads + 104 * maxObjects
+maxSheet = threadRecord * maxThreads + channelRecord * maxObjects

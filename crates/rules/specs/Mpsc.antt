@@ -20,7 +20,7 @@ use Rattle.rules.specs.declared.mpsc.Effect.{Effect}
 use Rattle.rules.specs.declared.thread.Answered.the-variants.{Kept}
 use Rattle.rules.specs.declared.thread.Thread.{Thread}
 use Rattle.rules.specs.declared.thread.Change.the-variants.{Wake, BlockReceivers}
-use Rattle.rules.specs.Ground.{noAccess, threadAt, stored, Touch, loads, passes, touched, Does, does, fails}
+use Rattle.rules.specs.Ground.{noAccess, threadAt, stored, loads, passes, touched, Does, does, fails}
 
 abbrev pub new : State
 new = record {

@@ -5,7 +5,7 @@ use lib.ListN.{getD, take, drop}
 use Rattle.clocks.specs.Clock.{maxThreads, zeroClock}
 use Rattle.clocks.specs.declared.clock.Clock.{Clock}
 use Rattle.clocks.specs.declared.thread.ThreadId.{ThreadId}
-use Rattle.rules.specs.Limits.{maxMessages, maxWaiters}
+use Rattle.rules.specs.Limits.{maxMessages, maxWaiters, threadRecord, channelRecord}
 use Rattle.rules.specs.declared.object.Kind.{Kind}
 use Rattle.rules.specs.declared.object.Kind.the-variants as kind
 use Rattle.rules.specs.declared.object.Entry.{Entry}
@@ -134,13 +134,13 @@ sheetOf table w = each threadBytes (filled absent (table .«thread_count») (w .
 
 -- the length of a record, and of the sheet, as the table says
 unfoldable pub recordLength : Kind → ℕ
-recordLength kind.Mutex = 8
-recordLength kind.RwLock = 9
-recordLength kind.Condvar = 10
-recordLength kind.Notify = 9
-recordLength kind.Channel = 104
-recordLength kind.Arc = 8
-recordLength kind.Cell = 15
+recordLength kind.Mutex = 2 + maxThreads
+recordLength kind.RwLock = 3 + maxThreads
+recordLength kind.Condvar = 2 + maxWaiters
+recordLength kind.Notify = 3 + maxThreads
+recordLength kind.Channel = channelRecord
+recordLength kind.Arc = 2 + maxThreads
+recordLength kind.Cell = 3 + 2 * maxThreads
 recordLength kind.Nothing = 0
 
 unfoldable pub objectsLength : List Made → ℕ
@@ -148,4 +148,4 @@ objectsLength [] = 0
 objectsLength (m ∷ ms) = recordLength (m .kind) + objectsLength ms
 
 unfoldable pub sheetLength : Table → ℕ
-sheetLength table = 17 * table .«thread_count» + objectsLength (take (table .«object_count») (table .objects))
+sheetLength table = threadRecord * table .«thread_count» + objectsLength (take (table .«object_count») (table .objects))

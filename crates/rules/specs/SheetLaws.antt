@@ -10,6 +10,8 @@ use lib.Seq.{sets, sets-eq}
 use Rattle.clocks.specs.Lists.{sets-then}
 use Rattle.clocks.specs.declared.clock.Clock.{Clock}
 use Rattle.clocks.specs.declared.thread.ThreadId.{ThreadId}
+use Rattle.clocks.specs.Clock.{maxThreads}
+use Rattle.rules.specs.Limits.{threadRecord, channelRecord, maxSheet}
 use Rattle.rules.specs.declared.object.Kind.{Kind}
 use Rattle.rules.specs.declared.object.Kind.the-variants as kind
 use Rattle.rules.specs.declared.object.Entry.{Entry}
@@ -33,7 +35,7 @@ pub each-length : {A : Type 0} (f : A → List ℕ) (k : ℕ) → ((x : A) → l
 each-length f k h [] = sym (mul-zero k)
 each-length f k h (x ∷ xs) = omega (arith, length-append (f x) (each f xs), h x, each-length f k h xs, mul-suc k (length xs))
 
-pub thread-length : (t : Thread) → length (threadBytes t) ≡ 17
+pub thread-length : (t : Thread) → length (threadBytes t) ≡ threadRecord
 unfolding threadBytes
 thread-length t = refl
 
@@ -62,9 +64,9 @@ sheet-length table w =
     let ts = filled absent (table .«thread_count») (w .threads) in
     let ms = take (table .«object_count») (table .objects) in
     omega
-    (arith, length-append (each threadBytes ts) (objectsBytes ms (w .objects)), each-length threadBytes 17 thread-length ts, filled-length absent (table .«thread_count») (w .threads), objects-length ms (w .objects))
+    (arith, length-append (each threadBytes ts) (objectsBytes ms (w .objects)), each-length threadBytes threadRecord thread-length ts, filled-length absent (table .«thread_count») (w .threads), objects-length ms (w .objects))
 
-pub record-small : (k : Kind) → recordLength k ≤ 104
+pub record-small : (k : Kind) → recordLength k ≤ channelRecord
 unfolding recordLength
 record-small kind.Mutex = omega arith
 record-small kind.RwLock = omega arith
@@ -75,16 +77,16 @@ record-small kind.Arc = omega arith
 record-small kind.Cell = omega arith
 record-small kind.Nothing = omega arith
 
-objects-small : (ms : List Made) → objectsLength ms ≤ 104 * length ms
+objects-small : (ms : List Made) → objectsLength ms ≤ channelRecord * length ms
 unfolding objectsLength
 objects-small [] = omega arith
 objects-small (m ∷ ms) = omega (arith, record-small (m .kind), objects-small ms)
 
-pub first-small : (ms : List Made) (k : ℕ) → objectsLength (take k ms) ≤ 104 * k
+pub first-small : (ms : List Made) (k : ℕ) → objectsLength (take k ms) ≤ channelRecord * k
 first-small ms k = omega (arith, objects-small (take k ms), length-take k ms)
 
 -- "Never above 1,766 bytes."
-pub sheet-small : (bs : List ℕ) (table : Table) → readTable bs ≡ accepted table → sheetLength table ≤ 1766
+pub sheet-small : (bs : List ℕ) (table : Table) → readTable bs ≡ accepted table → sheetLength table ≤ maxSheet
 unfolding sheetLength
 sheet-small bs table e =
     let w = read-within bs table e .0 in
@@ -131,7 +133,7 @@ waiter-at [] k d h = absurd (not-suc-le-zero h)
 waiter-at (w ∷ ws) zero d h = refl
 waiter-at (w ∷ ws) (suc k) d h = waiter-at ws k d (le-of-suc-le-suc h)
 
-pub clock-length : (c : Clock) → length (clockBytes c) ≡ 6
+pub clock-length : (c : Clock) → length (clockBytes c) ≡ maxThreads
 clock-length c = refl
 
 -- one object more
@@ -164,13 +166,13 @@ objects-written l at {m} ms es k p d e h i f g r =
 
 -- the sheet's two parts, one where the other ends
 pub sheet-written : (l : List ℕ) {m n : List ℕ} (table : Table) (w : World) → m ≡ sets l 0 (each threadBytes (filled absent (table .«thread_count») (w .threads)))
-    → n ≡ sets m (17 * table .«thread_count») (objectsBytes (take (table .«object_count») (table .objects)) (w .objects)) → n ≡ sets l 0 (sheetOf table w)
+    → n ≡ sets m (threadRecord * table .«thread_count») (objectsBytes (take (table .«object_count») (table .objects)) (w .objects)) → n ≡ sets l 0 (sheetOf table w)
 unfolding sheetOf
 sheet-written l {m} table w e f =
     let ts = filled absent (table .«thread_count») (w .threads) in
     let os = objectsBytes (take (table .«object_count») (table .objects)) (w .objects) in
-    let here : 17 * table .«thread_count» ≡ 0 + 17 * table .«thread_count» = omega arith in
-    sets-then l 0 (each threadBytes ts) os (17 * table .«thread_count») (each-length threadBytes 17 thread-length ts ∙ ap (λ (j : ℕ). 17 * j) (filled-length absent (table .«thread_count») (w .threads))) e (f ∙ ap (λ (j : ℕ). sets m j os) here)
+    let here : threadRecord * table .«thread_count» ≡ 0 + threadRecord * table .«thread_count» = omega arith in
+    sets-then l 0 (each threadBytes ts) os (threadRecord * table .«thread_count») (each-length threadBytes threadRecord thread-length ts ∙ ap (λ (j : ℕ). threadRecord * j) (filled-length absent (table .«thread_count») (w .threads))) e (f ∙ ap (λ (j : ℕ). sets m j os) here)
 
 -- a sheet that fits is written over the buffer's first bytes
 pub sheet-over : (buffer : List ℕ) (table : Table) (w : World) → sheetLength table ≤ length buffer → sets buffer 0 (sheetOf table w) ≡ over (sheetOf table w) buffer

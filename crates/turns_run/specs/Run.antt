@@ -1,6 +1,6 @@
 -- A list of decisions, run step by step: who acts, what that means for the turn of document 01, and what is left of the list's judgement.
 use mathlib.Core.Path.{_≡_}
-use mathlib.Core.Bool.{Bool, true, false}
+use mathlib.Core.Bool.{Bool}
 use mathlib.Core.List.{List}
 use Prim.Native.Nat.{ℕ, _+_, _-_, _*_, _≤_}
 use lib.Dec.{ltb}
@@ -33,7 +33,6 @@ use Rattle.turns_steps.specs.declared.step.Acting.the-variants.{Nobody, Moves, 
 use Rattle.turns_steps.specs.Step.{Scene, placeOf}
 use Rattle.turns_steps.specs.Quiet.{who}
 use Rattle.turns_steps.specs.Loud.{turnIn, askedIn, versionIn, changed, afterEffect, recordedIn, nextIn}
-use Rattle.turns_run.specs.declared.End.{End}
 use Rattle.turns_run.specs.declared.End.the-variants as end
 use Rattle.turns_run.specs.declared.Ran.{Ran}
 

@@ -58,9 +58,9 @@ use Rattle.rules.specs.Arc as arc
 use Rattle.rules.specs.Notify as notify
 use Rattle.rules.specs.Condvar as condvar
 use Rattle.rules.specs.Cell as cell
-use Rattle.rules.specs.Effect.{isFree, waitOf, lastDependentAccess, setLastAccess, doing, Effect, effect}
+use Rattle.rules.specs.Effect.{isFree, waitOf, setLastAccess, doing, Effect, effect}
 use Rattle.rules.specs.TableLaws.{split}
-use Rattle.rules.specs.Turn.{mutexOf, dependence, advance, retake, park, wait}
+use Rattle.rules.specs.Turn.{dependence, advance, retake, park, wait}
 use Rattle.rules.specs.TouchLaws.{resumed}
 use Rattle.rules.specs.NoteLaws.{effect-depends, recorded, operate-after}
 use Rattle.turns_steps.specs.declared.step.Move.{Move}
@@ -68,7 +68,7 @@ use Rattle.turns_steps.specs.declared.step.Move.the-variants.{Begins, An
 use Rattle.turns_steps.specs.declared.step.Acting.{Acting}
 use Rattle.turns_steps.specs.declared.step.Acting.the-variants.{Moves, InEffect, Over, Done}
 use Rattle.turns_steps.specs.Step as step
-use Rattle.turns_steps.specs.Step.{Scene, Moved, with, inTurn, spotIn, failing, advanced, thereafter, operation, act}
+use Rattle.turns_steps.specs.Step.{Scene, Moved, with, inTurn, spotIn, failing, thereafter, operation, act}
 use Rattle.turns_steps.specs.Quiet.{who, isBegun, rests, not, stops, isQuiet}
 
 -- the operation that takes effect, the turn it is in, and who is asked then

@@ -21,7 +21,6 @@ use Rattle.rules.specs.declared.object.Ending.the-variants as ending
 use Rattle.rules.specs.declared.thread.Answered.{Answered}
 use Rattle.rules.specs.declared.thread.Answered.the-variants.{Kept}
 use Rattle.rules.specs.declared.thread.Thread.{Thread}
-use Rattle.rules.specs.declared.table.Call.{Call}
 use Rattle.rules.specs.declared.table.Op.{Op}
 use Rattle.rules.specs.declared.table.Table.{Table}
 use Rattle.rules.specs.declared.world.World.{World}
@@ -41,7 +40,7 @@ use Rattle.turns_steps.specs.declared.step.Acting.the-variants.{Moves, InEffect
 use Rattle.turns_steps.specs.declared.quiet.Quiet.{Quiet}
 use Rattle.turns_steps.specs.Step.{Moved, Scene, act, placeOf, chosen}
 use Rattle.turns_steps.specs.Quiet.{who, isBegun, subjectIn, subject-in, placeIn, place-in, allowedIn, allowed-in, isQuiet, isBarred, quietly, stayed, quiet-law}
-use Rattle.turns_steps.specs.Loud.{opIn, takesEffect, wakesSpuriously, versionIn, afterEffect, recordedIn, recorded-begun, recorded-not, changed, verdictOr, outcome, nextIn, work, doneBy, spurred, wakes-effect, takes-mutex, takes-rwlock, takes-condvar, takes-notify, takes-channel, takes-arc, takes-cell, inMutex, inRwLock, inCondvar, inNotify, inChannel, inArc, inCell, recorded-mutex, recorded-rwlock, recorded-condvar, recorded-notify, recorded-channel, recorded-arc, recorded-cell}
+use Rattle.turns_steps.specs.Loud.{opIn, takesEffect, versionIn, afterEffect, recordedIn, recorded-begun, recorded-not, changed, verdictOr, outcome, nextIn, work, doneBy, spurred, wakes-effect, takes-mutex, takes-rwlock, takes-condvar, takes-notify, takes-channel, takes-arc, takes-cell, inMutex, inRwLock, inCondvar, inNotify, inChannel, inArc, inCell, recorded-mutex, recorded-rwlock, recorded-condvar, recorded-notify, recorded-channel, recorded-arc, recorded-cell}
 use Rattle.turns_run.specs.InEffect.{done-fine, done-fails, done-less, version, followed-on, followed-less}
 use Rattle.turns_run.specs.Run.{rest, Placed, Running, weight}
 use Rattle.turns_run.specs.Running.{begun, ran-out, not-allowed, surplus-left, verdict-reached, decision, decision-less, Found, acted, acted-less, turn-over, turn-over-less, all-ended, all-ended-less, taken-there, taken-none, op-there, op-none}

@@ -1,6 +1,5 @@
 -- `loud::one_more_done` meets its contract.
 use mathlib.Core.Path.{ap}
-use Prim.Native.Nat.{ℕ}
 use Rattle.rules.specs.Ground.{withPosition, withAnswer}
 use borrow.Author.Needs.{needs}
 use Rattle.turns_steps.proofs.loud.one_more_done.Statement.{statement}

@@ -1,5 +1,5 @@
 -- `step::is_allowed` meets its contract.
-use mathlib.Core.Path.{_∙_, ap, sym}
+use mathlib.Core.Path.{_∙_, ap}
 use Rattle.rules.specs.declared.thread.Thread.{Thread}
 use Rattle.turns_steps.specs.Quiet.{allowedIn, allowed-of}
 use borrow.Author.Needs.{needs}

@@ -6,13 +6,13 @@ use native.Mathlib.Omega.{arith}
 use lib.ListN.{length}
 use borrow.Author.Needs.{needs}
 use borrow.Author.Tests.{lt-ltb, le-ltb}
-use Rattle.clocks.specs.Clock.{aheads, aheadOf}
+use Rattle.clocks.specs.Clock.{maxThreads, aheads, aheadOf}
 use Rattle.clocks.specs.Laws.{aheads-length, aheads-at, Down, down-start, down-fits, low-fits, down-yes, down-no, down-nobody, down-found}
 use Rattle.clocks.proofs.clock.Clock.ahead.Statement.{statement}
 use Rattle.clocks.proofs.clock.Clock.ahead.Tie as tie
 
 abbrev Inv-loop : tie.InvT-loop
-Inv-loop counts others mask₀ lowest₀ i₀ mask lowest i = (length counts ≡ 6) × (length others ≡ 6) × (length (aheads counts others) ≡ 6) × Down (aheads counts others) mask lowest i
+Inv-loop counts others mask₀ lowest₀ i₀ mask lowest i = (length counts ≡ maxThreads) × (length others ≡ maxThreads) × (length (aheads counts others) ≡ maxThreads) × Down (aheads counts others) mask lowest i
 
 abbrev μ-loop : tie.MeasureT-loop
 μ-loop counts others mask₀ lowest₀ i₀ mask lowest i = i
@@ -21,10 +21,10 @@ loop-holds : tie.Need-loop-holds Inv-loop μ-loop
 loop-holds c =
     let xs : List ℕ = c .before .before .args .self .counts in
     let ys : List ℕ = c .before .before .args .other .counts in
-    let l : length xs ≡ 6 = search needs in
-    let m : length ys ≡ 6 = search needs in
-    let n : length (aheads xs ys) ≡ 6 = aheads-length xs ys (l ∙ sym m) ∙ l in
-    (l, m, n, down-start _ 6 (sym n))
+    let l : length xs ≡ maxThreads = search needs in
+    let m : length ys ≡ maxThreads = search needs in
+    let n : length (aheads xs ys) ≡ maxThreads = aheads-length xs ys (l ∙ sym m) ∙ l in
+    (l, m, n, down-start _ maxThreads (sym n))
 
 sub-i : tie.Need-sub-i Inv-loop μ-loop
 sub-i c = search needs

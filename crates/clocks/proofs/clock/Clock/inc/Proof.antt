@@ -6,7 +6,7 @@ use native.Mathlib.Omega.{arith}
 use lib.ListN.{length, set}
 use borrow.Author.Needs.{needs}
 use Rattle.clocks.specs.declared.clock.Clock.{Clock}
-use Rattle.clocks.specs.Clock.{incOf}
+use Rattle.clocks.specs.Clock.{maxThreads, incOf}
 use Rattle.clocks.specs.Laws.{raised-past}
 use Rattle.clocks.proofs.clock.Clock.inc.Statement.{statement}
 use Rattle.clocks.proofs.clock.Clock.inc.Tie as tie
@@ -21,7 +21,7 @@ returns : tie.Need-returns
 unfolding incOf
 returns c =
     let xs : List ℕ = c .before .before .args .self .counts in
-    let l : length xs ≡ 6 = search needs in
+    let l : length xs ≡ maxThreads = search needs in
     ap clock (sym (raised-past xs _ (omega arith)))
 
 array-read-one-more : tie.Need-array-read-one-more

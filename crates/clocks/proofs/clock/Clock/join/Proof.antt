@@ -6,7 +6,7 @@ use native.Mathlib.Omega.{arith}
 use lib.ListN.{length, getD}
 use borrow.Author.Needs.{needs}
 use Rattle.clocks.specs.declared.clock.Clock.{Clock}
-use Rattle.clocks.specs.Clock.{joinOf}
+use Rattle.clocks.specs.Clock.{maxThreads, joinOf}
 use Rattle.clocks.specs.Pass.{passed, turned, ended}
 use Rattle.clocks.proofs.clock.Clock.join.Statement.{statement}
 use Rattle.clocks.proofs.clock.Clock.join.Tie as tie
@@ -15,10 +15,10 @@ abbrev clock : List ℕ → Clock
 clock xs = record { counts = xs }
 
 abbrev Inv-loop : tie.InvT-loop
-Inv-loop counts₀ others i₀ counts i = (i ≤ 6) × (counts ≡ passed (λ (k x : ℕ). max x (getD others k 0)) i 0 counts₀)
+Inv-loop counts₀ others i₀ counts i = (i ≤ maxThreads) × (counts ≡ passed (λ (k x : ℕ). max x (getD others k 0)) i 0 counts₀)
 
 abbrev μ-loop : tie.MeasureT-loop
-μ-loop counts₀ others i₀ counts i = 6 - i
+μ-loop counts₀ others i₀ counts i = maxThreads - i
 
 loop-holds : tie.Need-loop-holds Inv-loop μ-loop
 loop-holds c = (search needs, refl)
@@ -48,7 +48,7 @@ returns : tie.Need-returns Inv-loop μ-loop
 unfolding joinOf
 returns c =
     let xs : List ℕ = c .before .before .before .before .args .self .counts in
-    let l : length xs ≡ 6 = search needs in
+    let l : length xs ≡ maxThreads = search needs in
     ap clock (ended _ (c .before .loop .i) xs _ (omega arith) (c .before .loop .inv .1))
 
 pub join-spec : {M : Type 1} → statement M
