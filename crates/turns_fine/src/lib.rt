@@ -1,10 +1,9 @@
 // The objects of an operation, against those that the table has made so far.
 ghost use mathlib.Core.Path.{_≡_};
 ghost use lib.ListN.{getD};
-ghost use Rattle.rules.specs.Effect.{waitOf};
 ghost use Rattle.rules.specs.Object.{noObject};
 ghost use Rattle.rules.specs.Table.{kindNumber, kindOf, isKind, mutexFine, objectsFine};
-use rules::condvar;
+use objects::wait_of;
 use rules::condvar::Wait;
 use rules::object::Kind;
 use rules::object::OBJECTS;
@@ -61,25 +60,6 @@ fn is_kind(objects: [Made; OBJECTS], object: ObjectId, kind: Kind) -> bool
 {
     let there = object_at(objects, object).kind;
     kind_number(there) == kind_number(kind)
-}
-
-// The mutex of a condvar wait.
-fn wait_of(call: Call) -> Wait
-    ensures { λ r. ⌜ r ≡ waitOf call ⌝ }
-{
-    match call {
-        Call::Condvar(c) => match c {
-            condvar::Call::Wait(m) => Wait::On(m),
-            condvar::Call::NotifyOne => Wait::Nowhere,
-            condvar::Call::NotifyAll => Wait::Nowhere,
-        },
-        Call::Mutex(_) => Wait::Nowhere,
-        Call::RwLock(_) => Wait::Nowhere,
-        Call::Notify(_) => Wait::Nowhere,
-        Call::Channel(_) => Wait::Nowhere,
-        Call::Arc(_) => Wait::Nowhere,
-        Call::Cell(_) => Wait::Nowhere,
-    }
 }
 
 fn mutex_fine(objects: [Made; OBJECTS], wait: Wait) -> bool

@@ -1,13 +1,14 @@
 // The sheet: threads, then objects, each by its record. What lies past the end of the lent bytes is not written.
 ghost use mathlib.Core.Path.{_≡_};
 ghost use Prim.Native.Nat.{_<_, min};
-ghost use lib.ListN.{getD, take};
+ghost use lib.ListN.{take};
 ghost use lib.Seq.{sets};
 ghost use Rattle.rules.specs.Ground.{absent};
 ghost use Rattle.rules.specs.Limits.{maxObjects};
 ghost use Rattle.rules.specs.Sheet.{filled, each, threadBytes, objectsBytes, sheetOf, recordLength, objectsLength, sheetLength};
-use clocks::Clock;
 use clocks::THREADS;
+use clocks::ThreadId;
+use objects_threads::thread::get;
 use rules::condvar::WAITERS;
 use rules::mpsc::MESSAGES;
 use rules::object::Entry;
@@ -15,8 +16,6 @@ use rules::object::Kind;
 use rules::object::OBJECTS;
 use rules::table::Made;
 use rules::table::Table;
-use rules::thread::Phase;
-use rules::thread::State;
 use rules::thread::Thread;
 use rules::world::World;
 use turns_shown::put_object;
@@ -82,29 +81,11 @@ pub fn sheet_length(table: Table) -> usize
     THREAD * (table.thread_count as usize) + objects_length(objects, table.object_count)
 }
 
-// A thread by its number; one that there is none of is absent.
-fn thread_at(threads: [Thread; THREADS], n: u8) -> Thread
-    ensures { λ r. ⌜ r ≡ getD threads n absent ⌝ }
-{
-    let i = n as usize;
-    if i < THREADS {
-        return threads[i];
-    }
-    Thread {
-        state: State::Ended,
-        phase: Phase::Nothing,
-        position: 0,
-        last_answer: 0,
-        clock: Clock::new(),
-        dependence: Clock::new(),
-    }
-}
-
 fn put_threads(sheet: &mut [u8], n: u8, threads: [Thread; THREADS])
     ensures { λ _. ⌜ now (sheet .exit) ≡ sets (now (sheet .entry)) 0 (each threadBytes (filled absent n threads)) ⌝ }
 {
     for i in 0..n {
-        let t = thread_at(threads, i);
+        let t = get(threads, ThreadId(i));
         put_thread(sheet, THREAD * (i as usize), t);
     }
 }

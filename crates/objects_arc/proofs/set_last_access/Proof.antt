@@ -1,5 +1,5 @@
 -- `set_last_access` meets its contract, by the action's case.
-use mathlib.Core.Path.{sym, ap}
+use mathlib.Core.Path.{sym, _∙_, ap}
 use Rattle.rules.specs.declared.arc.Action.{Action}
 use Rattle.rules.specs.declared.arc.Action.the-variants.{RefInc, RefDec, Inspect}
 use Rattle.rules.specs.Arc.{setLastAccess}

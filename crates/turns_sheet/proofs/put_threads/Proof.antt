@@ -20,8 +20,8 @@ abbrev μ-loop : tie.MeasureT-loop
 loop-holds : tie.Need-loop-holds Inv-loop μ-loop
 loop-holds c = (search needs, refl)
 
-thread-at-requires : tie.Need-thread-at-requires Inv-loop μ-loop
-thread-at-requires c κs = search needs
+get-requires : tie.Need-get-requires Inv-loop μ-loop
+get-requires c κs = search needs
 
 cast-put-thread : tie.Need-cast-put-thread Inv-loop μ-loop
 cast-put-thread c = search needs
@@ -43,7 +43,7 @@ loop-again c =
     let a = c .before .before .before .before .before .before .before .before .args in
     let l = c .before .before .before .before .before .before .loop in
     let at : 17 * l .i ≡ 0 + 17 * l .i = omega arith in
-    let got = c .before .before .before .before .thread-at in
+    let got = c .before .before .before .before .get in
     let here : sets (l .sheet) (17 * l .i) (threadBytes (got .result)) ≡ sets (l .sheet) (0 + 17 * l .i) (threadBytes (getD (a .threads) (l .i) absent)) = λ i. sets (l .sheet) (at i) (threadBytes (got .ensures i)) in
     (search needs, each-written (a .sheet .now) 0 threadBytes 17 thread-length absent (l .i) (a .threads) (l .inv .1) (c .before .before .put-thread .ensures ∙ here))
 
@@ -63,7 +63,7 @@ put-threads-spec =
     Inv-loop
     μ-loop
     loop-holds
-    thread-at-requires
+    get-requires
     cast-put-thread
     mul-put-thread
     put-thread-requires
