@@ -4,7 +4,7 @@ use mathlib.Core.Bool.{Bool, true, false}
 use mathlib.Core.List.{List, [], _∷_}
 use Prim.Native.Nat.{ℕ}
 use lib.Dec.{eqb}
-use lib.ListN.{length, length-set, getD}
+use lib.ListN.{length, length-set}
 use Rattle.clocks.specs.Clock.{joinOf, incOf}
 use Rattle.clocks.specs.Pass.{pass-length}
 use Rattle.clocks.specs.declared.clock.Clock.{Clock}
@@ -21,6 +21,7 @@ use Rattle.rules.specs.declared.thread.Change.the-variants.{Wake, Block, BlockW
 use Rattle.rules.specs.declared.table.Call.{Call}
 use Rattle.rules.specs.Ground.{withState, withClock, withAnswer, absent, threadAt, putThread, loaded, unparkState, unpark, unparkThread, isEnded, isOn, isWrite, isRecv, actionOf, blockedIf, changed, changedAt, others, answering, Touch, loads, passes, unparks, raises, touch, touched}
 use Rattle.rules.specs.TableLaws.{by-test}
+use Rattle.rules.specs.TouchLaws.{touched-read}
 use Rattle.rules.specs.Effect.{doing, effect}
 use Rattle.theorems.specs.All.{All, all-set, all-pass}
 
@@ -115,11 +116,10 @@ any-brings a (raises ∷ xs) = (λ c p. tt, any-brings a xs)
 pub effect-any : (n : ℕ) (P : ℕ → Thread → Type 0) → Bears Any P → (c : Call) (a : ThreadId) (o : ObjectId) (e : Entry) (ts : List Thread) → Hold n P ts → Hold n P (effect c a o e ts .threads)
 effect-any n P b c a o e ts h = effect-holds n Any P b a Any c o e ts tt (any-brings a (doing c a o (threadAt ts a .clock) e .touches)) h
 
--- an effect leaves the positions
+-- an effect leaves its thread's position
 pub keeps-position : (c : Call) (t : ThreadId) (o : ObjectId) (e : Entry) (ts : List Thread) → threadAt (effect c t o e ts .threads) t .position ≡ threadAt ts t .position
-keeps-position c t o e ts =
-    effect-any (length ts) (λ k x. x .position ≡ getD ts k absent .position)
-    (record { join = λ c d p q. tt; clock = λ k x h. tt; clocked = λ k x d p h. h; unparked = λ k x h. h; stands = λ k x o s on l h. h }) c t o e ts (refl, λ k. refl) .1 (t .0)
+unfolding effect
+keeps-position c t o e ts = touched-read t (λ x. x .position) (λ x d. refl) (doing c t o (threadAt ts t .clock) e .touches) ts
 
 -- the answer that an operation leaves changes the last answer alone
 pub answering-by : (P : Thread → Type 0) (n : Answered) (x : Thread) → ((m : ℕ) → P (withAnswer x m)) → P (answering n x)
