@@ -30,10 +30,10 @@ use Rattle.rules.specs.Effect.{waitOf, lastDependentAccess, doing, Effect, effe
 use Rattle.rules.specs.TableLaws.{split}
 use Rattle.rules.specs.TouchLaws.{touched-read}
 use Rattle.rules.specs.Turn.{dependence}
-use Rattle.turns_steps.specs.declared.step.Move.{Move}
-use Rattle.turns_steps.specs.declared.step.Move.the-variants.{Begins, Answers, Goes, Waits}
-use Rattle.turns_steps.specs.declared.step.Acting.{Acting}
-use Rattle.turns_steps.specs.declared.step.Acting.the-variants.{Moves, InEffect}
+use Rattle.turns_steps.specs.declared.Move.{Move}
+use Rattle.turns_steps.specs.declared.Move.the-variants.{Begins, Answers, Goes, Waits}
+use Rattle.turns_steps.specs.declared.Acting.{Acting}
+use Rattle.turns_steps.specs.declared.Acting.the-variants.{Moves, InEffect}
 use Rattle.turns_steps.specs.Step.{Scene, Moved}
 use Rattle.turns_steps.specs.Quiet.{who, rests, isQuiet, subjectIn, subject-in}
 use Rattle.turns_steps.specs.Loud.{again, opIn, takesEffect, verdictOr, outcome, nextIn, versionIn, afterEffect, changed, recordedIn, turnIn, askedIn, work, doneBy, sceneBy, version-before, loud-fine, loud-fails, set-then}

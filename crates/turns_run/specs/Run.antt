@@ -26,10 +26,10 @@ use Rattle.rules.specs.Object.{newEntry, noObject, putEntry}
 use Rattle.rules.specs.Table.{noOp, opsOf}
 use Rattle.rules.specs.Turn.{threadIn, entryIn, wants, done, afterTurn, leakCheck, settled, wait, goOn, turnOf, question, opsLeft}
 use Rattle.rules.specs.Judge.{Verdict, outcomeOf, step}
-use Rattle.turns_steps.specs.declared.step.Move.{Move}
-use Rattle.turns_steps.specs.declared.step.Move.the-variants.{Begins, Answers, Goes, Waits}
-use Rattle.turns_steps.specs.declared.step.Acting.{Acting}
-use Rattle.turns_steps.specs.declared.step.Acting.the-variants.{Nobody, Moves, InEffect, Over, AllEnded, Done}
+use Rattle.turns_steps.specs.declared.Move.{Move}
+use Rattle.turns_steps.specs.declared.Move.the-variants.{Begins, Answers, Goes, Waits}
+use Rattle.turns_steps.specs.declared.Acting.{Acting}
+use Rattle.turns_steps.specs.declared.Acting.the-variants.{Nobody, Moves, InEffect, Over, AllEnded, Done}
 use Rattle.turns_steps.specs.Step.{Scene, placeOf}
 use Rattle.turns_steps.specs.Quiet.{who}
 use Rattle.turns_steps.specs.Loud.{turnIn, askedIn, versionIn, changed, afterEffect, recordedIn, nextIn}

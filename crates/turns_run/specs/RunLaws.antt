@@ -44,10 +44,10 @@ use Rattle.rules.specs.TableLaws.{split, ops-few, ops-next}
 use Rattle.rules.specs.Turn as turn
 use Rattle.rules.specs.Turn.{threadIn, entryIn, withThreads, withTurn, withAsked, wants, done, refused, afterTurn, afterStep, allEnded, anyRunnable, mutexOf, settled, endingOf, spot, advance, operate, goOn, turnOf, question, opsLeft, begin, decideAt, isAllowed, decide, leakCheck}
 use Rattle.rules.specs.Judge.{Verdict, outcomeOf, step}
-use Rattle.turns_steps.specs.declared.step.Move.{Move}
-use Rattle.turns_steps.specs.declared.step.Move.the-variants.{Begins, Answers, Goes, Waits}
-use Rattle.turns_steps.specs.declared.step.Acting.{Acting}
-use Rattle.turns_steps.specs.declared.step.Acting.the-variants.{Nobody, Moves, InEffect, Over, AllEnded, Done}
+use Rattle.turns_steps.specs.declared.Move.{Move}
+use Rattle.turns_steps.specs.declared.Move.the-variants.{Begins, Answers, Goes, Waits}
+use Rattle.turns_steps.specs.declared.Acting.{Acting}
+use Rattle.turns_steps.specs.declared.Acting.the-variants.{Nobody, Moves, InEffect, Over, AllEnded, Done}
 use Rattle.turns_steps.specs.Step.{Scene, Moved, after, firstSubject, subject, with, inTurn, advanced, failing, thereafter, operation, begins, free, goesOn, spurious, answers, waits, act, placeAt, chosen}
 use Rattle.turns_run.specs.Run.{leftOf, opOf, sceneOf, worldOf, movedBy, goneOn, decided, Placed, goesWeight, weight, onwards, rest, followed, effectWeight}
 use Rattle.turns_steps.specs.Quiet.{who, stops, isQuiet}

@@ -20,9 +20,9 @@ use Rattle.rules.specs.Object.{newEntry, noObject, entryAt, putEntry}
 use Rattle.rules.specs.Table.{noOp}
 use Rattle.rules.specs.Turn.{leakCheck, isAllowed}
 use Rattle.rules.specs.Judge.{outcomeOf, step}
-use Rattle.turns_steps.specs.declared.step.Move.{Move}
-use Rattle.turns_steps.specs.declared.step.Acting.{Acting}
-use Rattle.turns_steps.specs.declared.step.Acting.the-variants.{Nobody, Moves, Over, AllEnded, Done}
+use Rattle.turns_steps.specs.declared.Move.{Move}
+use Rattle.turns_steps.specs.declared.Acting.{Acting}
+use Rattle.turns_steps.specs.declared.Acting.the-variants.{Nobody, Moves, Over, AllEnded, Done}
 use Rattle.turns_run.specs.declared.End.the-variants as end
 use Rattle.turns_steps.specs.Step.{Scene, Moved, after, subject, act, placeOf, chosen}
 use Rattle.turns_run.specs.Run.{leftOf, opOf, decided, rest, Placed, Running, weight, nowhere, ranOf}

@@ -63,10 +63,10 @@ use Rattle.rules.specs.TableLaws.{split}
 use Rattle.rules.specs.Turn.{dependence, advance, retake, park, wait}
 use Rattle.rules.specs.TouchLaws.{resumed}
 use Rattle.rules.specs.NoteLaws.{effect-depends, recorded, operate-after}
-use Rattle.turns_steps.specs.declared.step.Move.{Move}
-use Rattle.turns_steps.specs.declared.step.Move.the-variants.{Begins, Answers, Goes, Waits}
-use Rattle.turns_steps.specs.declared.step.Acting.{Acting}
-use Rattle.turns_steps.specs.declared.step.Acting.the-variants.{Moves, InEffect, Over, Done}
+use Rattle.turns_steps.specs.declared.Move.{Move}
+use Rattle.turns_steps.specs.declared.Move.the-variants.{Begins, Answers, Goes, Waits}
+use Rattle.turns_steps.specs.declared.Acting.{Acting}
+use Rattle.turns_steps.specs.declared.Acting.the-variants.{Moves, InEffect, Over, Done}
 use Rattle.turns_steps.specs.Step as step
 use Rattle.turns_steps.specs.Step.{Scene, Moved, with, inTurn, spotIn, failing, thereafter, operation, act}
 use Rattle.turns_steps.specs.Quiet.{who, isBegun, rests, not, stops, isQuiet}

@@ -27,10 +27,10 @@ use Rattle.rules.specs.Mutex as mutex
 use Rattle.rules.specs.Effect.{isFree, actionOf, isDisabled, asks, waitOf}
 use Rattle.rules.specs.TableLaws.{split}
 use Rattle.rules.specs.Turn.{mutexOf, announceOp, retake, ended, isAllowed}
-use Rattle.turns_steps.specs.declared.step.Move.{Move}
-use Rattle.turns_steps.specs.declared.step.Move.the-variants.{Begins, Answers, Goes, Waits}
-use Rattle.turns_steps.specs.declared.step.Acting.the-variants.{Nobody, Moves, Over}
-use Rattle.turns_steps.specs.declared.quiet.Quiet.{Quiet}
+use Rattle.turns_steps.specs.declared.Move.{Move}
+use Rattle.turns_steps.specs.declared.Move.the-variants.{Begins, Answers, Goes, Waits}
+use Rattle.turns_steps.specs.declared.Acting.the-variants.{Nobody, Moves, Over}
+use Rattle.turns_steps.specs.declared.Quiet.{Quiet}
 use Rattle.turns_steps.specs.Step as step
 use Rattle.turns_steps.specs.Step.{Scene, Moved, firstSubject, subject, act, placeAt, placeOf, chosen}
 

@@ -34,10 +34,10 @@ use Rattle.rules.specs.Object.{putNotify}
 use Rattle.rules.specs.Notify as notify
 use Rattle.rules.specs.Effect.{isFree, asks, waitOf, effect}
 use Rattle.rules.specs.Turn.{allEnded, anyRunnable, stuck, mutexOf, announceOp, retake, operate, advance, ended, wait}
-use Rattle.turns_steps.specs.declared.step.Move.{Move}
-use Rattle.turns_steps.specs.declared.step.Move.the-variants.{Begins, Answers, Goes, Waits}
-use Rattle.turns_steps.specs.declared.step.Acting.{Acting}
-use Rattle.turns_steps.specs.declared.step.Acting.the-variants.{Nobody, Moves, Over, AllEnded, Done}
+use Rattle.turns_steps.specs.declared.Move.{Move}
+use Rattle.turns_steps.specs.declared.Move.the-variants.{Begins, Answers, Goes, Waits}
+use Rattle.turns_steps.specs.declared.Acting.{Acting}
+use Rattle.turns_steps.specs.declared.Acting.the-variants.{Nobody, Moves, Over, AllEnded, Done}
 
 -- the world as a step sees it: of the objects, the one that it is about
 pub record Scene : Type 0 where

@@ -34,10 +34,10 @@ use Rattle.rules.specs.declared.mpsc.Action.{Action as ChannelAction}
 use Rattle.rules.specs.declared.arc.Action.{Action as ArcAction}
 use Rattle.rules.specs.Effect.{asks, waitOf, setLastAccess, Effect}
 use Rattle.rules.specs.Turn.{isAllowed}
-use Rattle.turns_steps.specs.declared.step.Move.{Move}
-use Rattle.turns_steps.specs.declared.step.Acting.{Acting}
-use Rattle.turns_steps.specs.declared.step.Acting.the-variants.{Moves, InEffect}
-use Rattle.turns_steps.specs.declared.quiet.Quiet.{Quiet}
+use Rattle.turns_steps.specs.declared.Move.{Move}
+use Rattle.turns_steps.specs.declared.Acting.{Acting}
+use Rattle.turns_steps.specs.declared.Acting.the-variants.{Moves, InEffect}
+use Rattle.turns_steps.specs.declared.Quiet.{Quiet}
 use Rattle.turns_steps.specs.Step.{Moved, Scene, act, placeOf, chosen}
 use Rattle.turns_steps.specs.Quiet.{who, isBegun, subjectIn, subject-in, placeIn, place-in, allowedIn, allowed-in, isQuiet, isBarred, quietly, stayed, quiet-law}
 use Rattle.turns_steps.specs.Loud.{opIn, takesEffect, versionIn, afterEffect, recordedIn, recorded-begun, recorded-not, changed, verdictOr, outcome, nextIn, work, doneBy, spurred, wakes-effect, takes-mutex, takes-rwlock, takes-condvar, takes-notify, takes-channel, takes-arc, takes-cell, inMutex, inRwLock, inCondvar, inNotify, inChannel, inArc, inCell, recorded-mutex, recorded-rwlock, recorded-condvar, recorded-notify, recorded-channel, recorded-arc, recorded-cell}
