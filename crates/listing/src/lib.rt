@@ -5,18 +5,16 @@ ghost use Prim.Native.Nat.{_≤_, _<_};
 ghost use lib.ListN.{length};
 use line::put_line;
 use rules::answer::Answer;
-use tables::answer::numbers;
-use turns::judge::judge;
-use walk::walk::at_most;
-use walk::walk::first;
-use walk::walk::next;
+use rules::table::LIST;
+use rules::table::SHEET;
+use turns::judge;
+use turns_answer::numbers;
+use walk::at_most;
+use walk::first;
+use walk::next;
 
 // More than any table that is accepted, and more than the place of any refusal.
 const TABLE: usize = 2048;
-// The longest list has 582 decisions.
-const LIST: usize = 584;
-// The longest sheet.
-const SHEET: usize = 1766;
 // Lines wait here, so that many are written at once.
 const OUT: usize = 65536;
 // More than the longest line.

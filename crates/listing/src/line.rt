@@ -7,7 +7,7 @@ ghost use lib.Seq.{sets};
 ghost use Rattle.rules.specs.Sheet.{each};
 ghost use Rattle.rules.specs.Walk.{hexDigit, decisionText};
 ghost use Rattle.listing.specs.Line.{decisionBytes, numberDigit};
-use tables::sheet::put;
+use turns_shown::put;
 
 fn hex_digit(n: u8) -> u8
     requires { ⌜ n < 16 ⌝ }

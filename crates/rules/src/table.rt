@@ -4,6 +4,7 @@ use crate::arc;
 use crate::cell;
 use crate::condvar;
 use crate::mpsc;
+use crate::mpsc::MESSAGES;
 use crate::mutex;
 use crate::notify;
 use crate::object::Kind;
@@ -38,6 +39,12 @@ pub struct Made {
 pub const OPERATIONS: usize = 32;
 
 pub const PLACES: usize = OPERATIONS * THREADS;
+
+// No complete list is longer.
+pub const LIST: usize = 97 * THREADS;
+
+// No sheet is longer: a record for each thread, and one for each object, a channel's the longest.
+pub const SHEET: usize = (5 + 2 * THREADS) * THREADS + (2 + THREADS + MESSAGES * THREADS) * OBJECTS;
 
 // The operations of thread t are ops[OPERATIONS * t ..], counts[t] of them.
 pub struct Table {

@@ -5,10 +5,10 @@ ghost use Rattle.rules.specs.Judge.{judgeOf};
 ghost use Rattle.rules.specs.Walk.{firstOf, nextOf};
 ghost use Rattle.skeldurn.specs.Word.{wordOf, numbersIn};
 use rules::answer::Numbers;
-use tables::answer::numbers;
-use turns::judge::judge;
-use walk::walk::first;
-use walk::walk::next;
+use turns::judge;
+use turns_answer::numbers;
+use walk::first;
+use walk::next;
 
 fn wide(n: u8) -> u64
     ensures { λ r. ⌜ r ≡ n ⌝ }
@@ -33,8 +33,8 @@ pub extern "C" fn skeldurn_judge(table: &[u8], list: &[u8], sheet: &mut [u8]) ->
     ensures { λ r. ⌜ numbersIn r ≡ numbersOf (judgeOf (now (table .entry)) (now (list .entry)) (now (sheet .entry)) .answer) ⌝ }
     ensures { λ _. ⌜ now (sheet .exit) ≡ judgeOf (now (table .entry)) (now (list .entry)) (now (sheet .entry)) .buffer ⌝ }
 {
-    let answer = judge(table, list, sheet);
-    word(numbers(answer))
+    let judged = judge(table, list, sheet);
+    word(numbers(judged))
 }
 
 // The smallest complete list.
@@ -44,8 +44,8 @@ pub extern "C" fn skeldurn_first(table: &[u8], list: &mut [u8]) -> u64
     ensures { λ r. ⌜ numbersIn r ≡ numbersOf (firstOf (now (table .entry)) (now (list .entry)) .answer) ⌝ }
     ensures { λ _. ⌜ now (list .exit) ≡ firstOf (now (table .entry)) (now (list .entry)) .buffer ⌝ }
 {
-    let answer = first(table, list);
-    word(numbers(answer))
+    let smallest = first(table, list);
+    word(numbers(smallest))
 }
 
 // The smallest complete list above a complete one.
@@ -55,6 +55,6 @@ pub extern "C" fn skeldurn_next(table: &[u8], list: &[u8], out: &mut [u8]) -> u6
     ensures { λ r. ⌜ numbersIn r ≡ numbersOf (nextOf (now (table .entry)) (now (list .entry)) (now (out .entry)) .answer) ⌝ }
     ensures { λ _. ⌜ now (out .exit) ≡ nextOf (now (table .entry)) (now (list .entry)) (now (out .entry)) .buffer ⌝ }
 {
-    let answer = next(table, list, out);
-    word(numbers(answer))
+    let later = next(table, list, out);
+    word(numbers(later))
 }

@@ -6,7 +6,7 @@ ghost use Rattle.rules.specs.declared.thread.State.the-variants.{Runnable, Bloc
 ghost use Rattle.threads.specs.Passes.{statedAt};
 use clocks::Clock;
 use clocks::ThreadId;
-use objects::thread;
+use objects_threads::thread;
 use rules::object::ObjectId;
 use rules::thread::State;
 use rules::thread::Thread;

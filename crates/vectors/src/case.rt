@@ -12,9 +12,10 @@ use crate::text::decimal;
 use crate::text::hex_bytes;
 use rules::answer::Answer;
 use rules::answer::Numbers;
-use turns::judge::judge;
-use walk::walk::first;
-use walk::walk::next;
+use turns::judge;
+use turns_answer::numbers;
+use walk::first;
+use walk::next;
 
 // More than the largest table, list or sheet.
 const ROOM: usize = 2048;
@@ -99,7 +100,7 @@ fn gives(
     ensures { λ r. ⌜ (Agreed call (now (table .entry)) (now (list .entry)) (now (buffer .entry)) (now (answer .entry)) (now (told .entry)) → r ≡ true) ⌝ }
 {
     let a = made(call, table, list, buffer);
-    let six = in_order(tables::answer::numbers(a));
+    let six = in_order(numbers(a));
     is_answer(answer, six) && check::same(buffer, told)
 }
 

@@ -10,21 +10,16 @@ use Rattle.lists.specs.Judge.{judgeAt, judge}
 use Rattle.lists.specs.Greedy.{seek, seek-sought, smallest}
 use Rattle.lists.specs.Code.{Carried, carried-none, carried-done, carried-refused, carried-one, carried-two}
 use Rattle.rules.specs.declared.table.Table.{Table}
-use Rattle.rules.specs.declared.world.Asked.{Asked}
-use Rattle.rules.specs.declared.world.Asked.the-variants as asked
 use Rattle.rules.specs.declared.world.World.{World}
-use Rattle.rules.specs.declared.thread.Thread.{Thread}
-use Rattle.rules.specs.Ground.{threadAt}
+use Rattle.rules.specs.Turn.{isAllowed}
 use Rattle.rules.specs.Judge.{Verdict, step}
 use Rattle.rules.specs.Walk.{decisions}
-use Rattle.turns.specs.declared.run.End.{End}
-use Rattle.turns.specs.declared.run.End.the-variants as end
-use Rattle.turns.specs.declared.run.Ran.{Ran}
-use Rattle.turns.specs.Run.{ranOf}
-use Rattle.turns.specs.Step.{isAllowed}
-use Rattle.turns.specs.Quiet.{allowedIn}
-use Rattle.walk.specs.declared.walk.Progress.{Progress}
-use Rattle.walk.specs.Allowed.{allowed-is}
+use Rattle.turns_run.specs.declared.End.{End}
+use Rattle.turns_run.specs.declared.End.the-variants as end
+use Rattle.turns_run.specs.declared.Ran.{Ran}
+use Rattle.turns_run.specs.Run.{ranOf}
+use Rattle.walk.specs.declared.Progress.{Progress}
+use Rattle.theorems.specs.Allowed.{allowed-is}
 use Rattle.walk.specs.Says.{stageAt, stageOf, isOver, Completed}
 
 pub decided-one : (table : Table) (w : World) (d : ℕ) → stageOf (ranOf (judge (step table) 0 w (d ∷ []))) ≡ step table w d
@@ -36,17 +31,12 @@ decided-one table w d = go (step table w d)
     go (done v) = refl
     go (wants v) = refl
 
--- what is allowed, by the state of the thread that is named
-pub by-state : (a : Asked) (ts : List Thread) (d : ℕ) → allowedIn a (threadAt ts (record { 0 = d }) .state) d ≡ isAllowed a ts d
-by-state asked.Nobody ts d = refl
-by-state (asked.Thread t) ts d = refl
-
 -- the least allowed decision, by what is allowed
 pub least-is : (table : Table) (w : World) (n k : ℕ) → seek (isAllowed (w .asked) (w .threads)) n k ≡ seek (allowed (step table) w) n k
 least-is table w n k i = seek (λ (d : ℕ). sym (allowed-is table w d) i) n k
 
-pub least-small : (p : ℕ → Bool) (d : ℕ) → d ≡ seek p 6 0 → d < 256
-least-small p d e = omega (arith, e, seek-sought p 6 0 .high)
+pub least-small : (p : ℕ → Bool) (d : ℕ) → d ≡ seek p decisions 0 → d < 256
+least-small p d e = omega (arith, e, seek-sought p decisions 0 .high)
 
 -- after a verdict, and after a refusal, any number of decisions is none
 pub stays : (table : Table) (n : ℕ) (p : Progress) (l : List ℕ) → isOver (p .ran .end) ≡ true → Completed table n p l p l
@@ -60,7 +50,7 @@ stays table n p l e = go (p .ran .end) e
 
 -- the smallest decision, stored
 pub takes-one : (table : Table) (p : Progress) (l : List ℕ) (r : Ran) (d : ℕ) → isOver (p .ran .end) ≡ false → p .at < length l
-    → d ≡ seek (isAllowed (p .ran .world .asked) (p .ran .world .threads)) 6 0 → stageOf r ≡ step table (p .ran .world) d → Completed table 1 p l (record { ran = r; at = p .at + 1 }) (set l (p .at) d)
+    → d ≡ seek (isAllowed (p .ran .world .asked) (p .ran .world .threads)) decisions 0 → stageOf r ≡ step table (p .ran .world) d → Completed table 1 p l (record { ran = r; at = p .at + 1 }) (set l (p .at) d)
 unfolding smallest
 takes-one table p l r d e h s o = go (p .ran .end) e
   where
@@ -68,7 +58,7 @@ takes-one table p l r d e h s o = go (p .ran .end) e
     w = p .ran .world
 
     small : d ≡ smallest (step table) decisions w
-    small = s ∙ least-is table w 6 0
+    small = s ∙ least-is table w decisions 0
 
     go : (x : End) → isOver x ≡ false → Carried (step table) decisions 1 (stageAt x (p .ran .world)) (p .at) l (stageOf r) (p .at + 1) (set l (p .at) d)
     go (end.NotAllowed i) e = absurd (let q : _≡_ {A = ℕ} 0 1 = cc in omega (arith, q))

@@ -21,20 +21,21 @@ use Rattle.rules.specs.declared.table.Table.{Table}
 use Rattle.rules.specs.declared.table.Taken.the-variants.{Accepted, Refused}
 use Rattle.rules.specs.declared.table.TableRead.{TableRead}
 use Rattle.rules.specs.declared.world.World.{World}
+use Rattle.rules.specs.Limits.{maxList}
 use Rattle.rules.specs.Table.{Read, readTable, readOf}
 use Rattle.rules.specs.TableLaws.{read-within}
 use Rattle.rules.specs.Turn.{start}
 use Rattle.rules.specs.Judge.{Verdict, step, Given, untouched}
 use Rattle.rules.specs.Walk.{decisions, left, handOver, firstTable, firstOf, nextList, nextJudged, nextTable, nextOf}
-use Rattle.turns.specs.declared.run.End.{End}
-use Rattle.turns.specs.declared.run.End.the-variants as end
-use Rattle.turns.specs.declared.run.Ran.{Ran}
-use Rattle.turns.specs.Run.{ranOf}
+use Rattle.turns_run.specs.declared.End.{End}
+use Rattle.turns_run.specs.declared.End.the-variants as end
+use Rattle.turns_run.specs.declared.Ran.{Ran}
+use Rattle.turns_run.specs.Run.{ranOf}
 use Rattle.turns.specs.Start.{was-refused, was-accepted}
-use Rattle.walk.specs.declared.walk.Progress as code
-use Rattle.walk.specs.declared.walk.Mark.{Mark}
-use Rattle.walk.specs.declared.walk.Passed.{Passed}
-use Rattle.walk.specs.Length.{start-left, left-some}
+use Rattle.walk.specs.declared.Progress as code
+use Rattle.walk.specs.declared.Mark.{Mark}
+use Rattle.walk.specs.declared.Passed.{Passed}
+use Rattle.theorems.specs.Length.{start-left, left-some}
 use Rattle.walk.specs.Says.{stageOf, Completed, pivotOf, Started, PassSays, Raisable, raisedTo}
 use Rattle.walk.specs.Passes.{start-enough, raised-enough}
 
@@ -56,11 +57,11 @@ module _ (from buffer : List ℕ) (n : ℕ) (h : n ≤ length from) where
       ∙ sym (rw (handOver, lt-leb (length (take n from)) (length buffer) (omega (arith, long, l))))
 
 -- an accepted table has few decisions before it
-pub left-few : (table : Table) → Started table → left table (start table) ≤ 582
+pub left-few : (table : Table) → Started table → left table (start table) ≤ maxList
 left-few table b = omega (arith, start-left table (b .within), b .within .threads)
 
 -- so has a mark
-pub place-few : (table : Table) (l : List ℕ) (m : Mark) → Raisable table l m → m .at ≤ 581
+pub place-few : (table : Table) (l : List ℕ) (m : Mark) → Raisable table l m → m .at < maxList
 place-few table l m r = omega (arith, r .placed .few, left-few table (r .started), left-some table (r .started .within) (m .world) (r .placed .good))
 
 -- the decisions of a completion
@@ -69,27 +70,27 @@ made-of : (table : Table) (n : ℕ) (p : code.Progress) (l : List ℕ) (r : code
 made-of table n p l r m x = sym (ap (λ (q : Progress World Verdict). q .made) (x .goes)) ∙ advanced-made (step table) decisions n (stageOf (p .ran)) (take (p .at) l)
 
 pub first-made : (table : Table) → Started table → (w : World) → w ≡ start table → (l : List ℕ) (r : code.Progress) (m : List ℕ)
-    → Completed table 583 (record { ran = record { end = end.Unfinished; world = w }; at = 0 }) l r m
+    → Completed table (maxList + 1) (record { ran = record { end = end.Unfinished; world = w }; at = 0 }) l r m
     → take (r .at) m ≡ next.firstOf (step table) decisions (left table) (start table)
 unfolding next.firstOf
 first-made table b w e l r m x =
-    made-of table 583 (record { ran = record { end = end.Unfinished; world = w }; at = 0 }) l r m x ∙ ap (greedy (step table) decisions 583) e ∙ start-enough table b 583 (omega (arith, left-few table b))
+    made-of table (maxList + 1) (record { ran = record { end = end.Unfinished; world = w }; at = 0 }) l r m x ∙ ap (greedy (step table) decisions (maxList + 1)) e ∙ start-enough table b (maxList + 1) (omega (arith, left-few table b))
 
 -- a list is raised: copied up to the mark, then the mark's decision, then the completion
-module _ (table : Table) (l : List ℕ) (k : Mark) (h : Raisable table l k) (s : List ℕ) (room : length s ≡ 584) (b : List ℕ) (copied : b ≡ take (k .at) l ++ drop (k .at) s) where
+module _ (table : Table) (l : List ℕ) (k : Mark) (h : Raisable table l k) (s : List ℕ) (room : length s ≡ maxList + 2) (b : List ℕ) (copied : b ≡ take (k .at) l ++ drop (k .at) s) where
   abbrev i : ℕ
   i = k .at
 
   abbrev begun : List ℕ
   begun = set b i (k .decision)
 
-  few : i ≤ 581
+  few : i < maxList
   few = place-few table l k h
 
   in-list : i ≤ length l
   in-list = omega (arith, h .placed .inside)
 
-  copied-room : length b ≡ 584
+  copied-room : length b ≡ maxList + 2
   copied-room = ap length copied ∙ copied-length l s i in-list (omega (arith, few, room)) ∙ room
 
   begun-made : take (i + 1) begun ≡ take i l ++ k .decision ∷ []
@@ -98,14 +99,14 @@ module _ (table : Table) (l : List ℕ) (k : Mark) (h : Raisable table l k) (s :
       ∙ ap (λ (z : List ℕ). take i z ++ k .decision ∷ []) copied
       ∙ ap (λ (z : List ℕ). z ++ k .decision ∷ []) (take-at (take i l) (drop i s) i (length-take-le i l in-list))
 
-  pub raised-room : (q : Ran) (r : code.Progress) (m : List ℕ) → Completed table (583 - i) (record { ran = q; at = i + 1 }) begun r m → r .at ≤ length m
+  pub raised-room : (q : Ran) (r : code.Progress) (m : List ℕ) → Completed table (maxList + 1 - i) (record { ran = q; at = i + 1 }) begun r m → r .at ≤ length m
   raised-room q r m x = omega (arith, x .high, x .size, length-set b i (k .decision), copied-room, few)
 
   pub raised-made : (q : Ran) → stageOf q ≡ step table (k .world) (k .decision) → (r : code.Progress) (m : List ℕ)
-      → Completed table (583 - i) (record { ran = q; at = i + 1 }) begun r m → take (r .at) m ≡ raisedTo table l k
+      → Completed table (maxList + 1 - i) (record { ran = q; at = i + 1 }) begun r m → take (r .at) m ≡ raisedTo table l k
   unfolding raised
   raised-made q e r m x =
-      let n : ℕ = 583 - i in
+      let n : ℕ = maxList + 1 - i in
       let rest : List ℕ = goOn (step table (k .world) (k .decision)) (greedy (step table) decisions n) in
       made-of table n (record { ran = q; at = i + 1 }) begun r m x
       ∙ (λ j. begun-made j ++ goOn (e j) (greedy (step table) decisions n))
@@ -161,6 +162,6 @@ module _ (bs : List ℕ) (read : TableRead) (e : read ≡ readOf (readTable bs))
         unfolding nextList
         next-none a q f = let z = next-given (end.Verdict a) q in rw f at z
 
-        pub next-raised : (a : Answer) → p .end ≡ end.Verdict a → p .mark .found ≡ true → handOver (raisedTo table list (p .mark)) buffer ≡ nextOf bs list buffer
+        pub next-raised : (a : Answer) → p .end ≡ end.Verdict a → p .mark .found ≡ true → (g : Given) → g ≡ handOver (raisedTo table list (p .mark)) buffer → g ≡ nextOf bs list buffer
         unfolding nextList
-        next-raised a q f = let z = next-given (end.Verdict a) q in rw f at z
+        next-raised a q f g h = let z = next-given (end.Verdict a) q in h ∙ rw f at z

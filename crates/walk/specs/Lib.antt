@@ -1,12 +1,3 @@
-pub mod Shape
-pub mod Stage
-pub mod Falling
-pub mod Allowed
-pub mod Machine
-pub mod Accepted
-pub mod Length
-pub mod Meets
-pub mod Places
 pub mod Says
 pub mod Decided
 pub mod Passes

@@ -9,7 +9,6 @@ use native.Mathlib.Numerals.{add-one}
 use native.Mathlib.Omega.{arith}
 use lib.ListN.{length, drop, getD}
 use borrow.Author.Tests.{lt-ltb, le-ltb}
-use Rattle.clocks.specs.Clock.{risen}
 use Rattle.lists.specs.Rules.{Outcome, refused, done, wants}
 use Rattle.lists.specs.Judge.{Judged}
 use Rattle.lists.specs.Greedy.{seek, larger, goOn, greedy, greedy-enough}
@@ -18,40 +17,34 @@ use Rattle.lists.specs.Code.{pass-end, pass-refused, pass-done, pass-wants, jud
 use Rattle.rules.specs.declared.answer.Answer.{Answer}
 use Rattle.rules.specs.declared.table.Table.{Table}
 use Rattle.rules.specs.declared.world.World.{World}
-use Rattle.rules.specs.Table.{opsOf}
-use Rattle.rules.specs.TableLaws.{ops-next}
-use Rattle.rules.specs.Turn.{start}
+use Rattle.rules.specs.Turn.{isAllowed, start}
 use Rattle.rules.specs.Judge.{Verdict, step}
 use Rattle.rules.specs.Walk.{decisions, left}
-use Rattle.turns.specs.declared.run.End.the-variants as end
-use Rattle.turns.specs.Run.{ranOf}
-use Rattle.turns.specs.Step.{isAllowed}
-use Rattle.walk.specs.declared.walk.Mark.{Mark}
-use Rattle.walk.specs.Falling.{Good}
-use Rattle.walk.specs.Machine.{bounded, some-allowed, keeps, falls}
-use Rattle.walk.specs.Accepted.{start-good}
+use Rattle.turns_run.specs.declared.End.the-variants as end
+use Rattle.turns_run.specs.Run.{ranOf}
+use Rattle.walk.specs.declared.Mark.{Mark}
+use Rattle.theorems.specs.Falling.{Good}
+use Rattle.theorems.specs.Machine.{bounded, some-allowed, keeps, falls}
+use Rattle.theorems.specs.Accepted.{start-good}
 use Rattle.walk.specs.Decided.{least-is}
 use Rattle.walk.specs.Says.{stageAt, pivotOf, Marked, Started, Placed, Passing, PassSays}
 
 -- a larger decision, or none
-module _ (m : Mark) (i : ℕ) (w : World) (d e : ℕ) (s : e ≡ seek (isAllowed (w .asked) (w .threads)) (6 - (d + 1)) (d + 1)) where
+module _ (m : Mark) (i : ℕ) (w : World) (d e : ℕ) (s : e ≡ seek (isAllowed (w .asked) (w .threads)) (decisions - (d + 1)) (d + 1)) where
   found : (table : Table) → e ≡ larger (step table) decisions w d
   unfolding larger
-  found table = let t : e ≡ seek (isAllowed (w .asked) (w .threads)) (6 - suc d) (suc d) = rw add-one at s in t ∙ least-is table w (6 - suc d) (suc d)
+  found table = let t : e ≡ seek (isAllowed (w .asked) (w .threads)) (decisions - suc d) (suc d) = rw add-one at s in t ∙ least-is table w (decisions - suc d) (suc d)
 
-  pub better-found : e < 6 → Marked m i w d (record { found = true; at = i; world = w; decision = e })
+  pub better-found : e < decisions → Marked m i w d (record { found = true; at = i; world = w; decision = e })
   better-found h = record {
-    is = λ table. rw (← found table, lt-ltb e 6 h);
+    is = λ table. rw (← found table, lt-ltb e decisions h);
     from = inr (refl, refl);
   }
 
-  pub better-kept : 6 ≤ e → Marked m i w d m
-  better-kept h = record { is = λ table. rw (← found table, le-ltb e 6 h); from = inl refl }
+  pub better-kept : decisions ≤ e → Marked m i w d m
+  better-kept h = record { is = λ table. rw (← found table, le-ltb e decisions h); from = inl refl }
 
 module _ (table : Table) (begun : Started table) where
-  step-on : (k p : ℕ) → drop (risen 255 p) (opsOf table k) ≡ drop 1 (drop p (opsOf table k))
-  step-on k p = ops-next table k p (begun .within .ops)
-
   pub passing-start : (l : List ℕ) (m : Mark) → m .found ≡ false → Passing table l (start table) m 0
   passing-start l m e = record {
     in-list = omega arith;
@@ -109,11 +102,11 @@ module _ (table : Table) (begun : Started table) where
 
       pub passing-wants : (v : World) → step table w (getD l i 0) ≡ wants v → Passing table l v b (i + 1)
       passing-wants v e =
-          let f = falls table step-on w (getD l i 0) v (p .good) e in
+          let f = falls table (begun .within) w (getD l i 0) v (p .good) e in
           let o = p .few in
           record {
             in-list = omega (arith, h);
-            good = keeps table step-on w (getD l i 0) v (p .good) e;
+            good = keeps table (begun .within) w (getD l i 0) v (p .good) e;
             few = omega (arith, f, o);
             judged = p .judged ∙ judge-wants (step table) w l i v h e;
             pivot =
@@ -126,7 +119,7 @@ module _ (table : Table) (begun : Started table) where
   -- more decisions than are left change nothing
   pub start-enough : (n : ℕ) → left table (start table) < n → greedy (step table) decisions n (start table) ≡ greedy (step table) decisions (suc (left table (start table))) (start table)
   start-enough n h =
-      greedy-enough (step table) decisions (left table) (Good table) (bounded table step-on) (some-allowed table step-on) (keeps table step-on) (falls table step-on) n (suc (left table (start table))) (start table) (start-good table (begun .within) (begun .some)) h (omega arith)
+      greedy-enough (step table) decisions (left table) (Good table) (bounded table (begun .within)) (some-allowed table (begun .within)) (keeps table (begun .within)) (falls table (begun .within)) n (suc (left table (start table))) (start table) (start-good table (begun .within) (begun .some)) h (omega arith)
 
   pub raised-enough : (w : World) (d n : ℕ) → Good table w → left table w ≤ n
       → goOn (step table w d) (greedy (step table) decisions n) ≡ goOn (step table w d) (greedy (step table) decisions (left table w))
@@ -136,5 +129,5 @@ module _ (table : Table) (begun : Started table) where
       go refused e = refl
       go (done v) e = refl
       go (wants v) e =
-          let f = falls table step-on w d v g e in
-          greedy-enough (step table) decisions (left table) (Good table) (bounded table step-on) (some-allowed table step-on) (keeps table step-on) (falls table step-on) n (left table w) v (keeps table step-on w d v g e) (omega (arith, f, h)) f
+          let f = falls table (begun .within) w d v g e in
+          greedy-enough (step table) decisions (left table) (Good table) (bounded table (begun .within)) (some-allowed table (begun .within)) (keeps table (begun .within)) (falls table (begun .within)) n (left table w) v (keeps table (begun .within) w d v g e) (omega (arith, f, h)) f

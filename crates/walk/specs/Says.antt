@@ -15,14 +15,14 @@ use Rattle.rules.specs.TableLaws.{Within}
 use Rattle.rules.specs.Turn.{start}
 use Rattle.rules.specs.Judge.{Verdict, step}
 use Rattle.rules.specs.Walk.{decisions, left}
-use Rattle.turns.specs.declared.run.End.{End}
-use Rattle.turns.specs.declared.run.End.the-variants as end
-use Rattle.turns.specs.declared.run.Ran.{Ran}
-use Rattle.turns.specs.Run.{ranOf}
-use Rattle.walk.specs.declared.walk.Progress.{Progress}
-use Rattle.walk.specs.declared.walk.Mark.{Mark}
-use Rattle.walk.specs.declared.walk.Passed.{Passed}
-use Rattle.walk.specs.Falling.{Good}
+use Rattle.turns_run.specs.declared.End.{End}
+use Rattle.turns_run.specs.declared.End.the-variants as end
+use Rattle.turns_run.specs.declared.Ran.{Ran}
+use Rattle.turns_run.specs.Run.{ranOf}
+use Rattle.walk.specs.declared.Progress.{Progress}
+use Rattle.walk.specs.declared.Mark.{Mark}
+use Rattle.walk.specs.declared.Passed.{Passed}
+use Rattle.theorems.specs.Falling.{Good}
 
 -- a run of one decision is its outcome
 abbrev pub stageAt : End → World → Outcome World Verdict

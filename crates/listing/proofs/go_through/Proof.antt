@@ -3,12 +3,13 @@ use mathlib.Core.Path.{_≡_, sym}
 use native.Mathlib.Omega.{arith}
 use lib.ListN.{length}
 use lib.Seq.{length-take-le}
+use Rattle.rules.specs.Limits.{maxList}
 use borrow.Author.Needs.{needs}
 use Rattle.listing.proofs.go_through.Statement.{statement}
 use Rattle.listing.proofs.go_through.Tie as tie
 
 abbrev Inv-loop : tie.InvT-loop
-Inv-loop table count to out₀ list₀ k₀ used₀ turns₀ out list k used turns = (length out ≡ 65536) × (length list ≡ 584)
+Inv-loop table count to out₀ list₀ k₀ used₀ turns₀ out list k used turns = (length out ≡ 65536) × (length list ≡ maxList)
 
 abbrev μ-loop : tie.MeasureT-loop
 μ-loop table count to out₀ list₀ k₀ used₀ turns₀ out list k used turns = turns

@@ -2,7 +2,6 @@
 use mathlib.Core.Path.{sym}
 use lib.Seq.{length-take-le}
 use borrow.Author.Needs.{needs}
-use borrow.Author.Needs.{needs}
 use Rattle.listing.proofs.list_runs.Statement.{statement}
 use Rattle.listing.proofs.list_runs.Tie as tie
 

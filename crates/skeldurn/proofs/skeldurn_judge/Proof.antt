@@ -3,9 +3,10 @@ use mathlib.Core.Path.{_≡_, sym, _∙_, ap, subst}
 use Prim.Native.Nat.{_≤_}
 use native.Mathlib.Omega.{arith}
 use Rattle.rules.specs.declared.answer.Numbers.{Numbers}
+use Rattle.rules.specs.Limits.{maxSheet}
 use Rattle.rules.specs.Answer.{numbersOf}
 use Rattle.rules.specs.Judge.{Given, judgeOf}
-use Rattle.walk.specs.Places.{judge-place}
+use Rattle.theorems.specs.Places.{judge-place}
 use Rattle.skeldurn.specs.Word.{Fits, told}
 use borrow.Author.Needs.{needs}
 use Rattle.skeldurn.proofs.skeldurn_judge.Statement.{statement}
@@ -29,7 +30,7 @@ returns c =
     let j = c .before .before .before .before .judge .ensures in
     let n : Numbers = c .before .numbers .result in
     let same : n ≡ numbersOf (judgeOf (a .table .now) (a .list .now) (a .sheet .now) .answer) = c .before .numbers .ensures ∙ ap (λ (g : Given). numbersOf (g .answer)) j in
-    let small : n .place ≤ 1766 = subst (λ (m : Numbers). m .place ≤ 1766) (sym same) (judge-place (a .table .now) (a .list .now) (a .sheet .now)) in
+    let small : n .place ≤ maxSheet = subst (λ (m : Numbers). m .place ≤ maxSheet) (sym same) (judge-place (a .table .now) (a .list .now) (a .sheet .now)) in
     let fits : Fits n = record { number = search needs; place = omega (arith, small); thread = search needs; position = search needs; object = search needs } in
     let word = told n fits _ same _ (c .word .ensures) in
     (word .0, (word .1, ap (λ (g : Given). g .buffer) j))

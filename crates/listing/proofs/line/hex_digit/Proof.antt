@@ -1,7 +1,6 @@
 -- `line::hex_digit` meets its contract.
 use Rattle.listing.specs.Line.{digit-is}
 use borrow.Author.Needs.{needs}
-use borrow.Author.Needs.{needs}
 use Rattle.listing.proofs.line.hex_digit.Statement.{statement}
 use Rattle.listing.proofs.line.hex_digit.Tie as tie
 

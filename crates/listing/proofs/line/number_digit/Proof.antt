@@ -1,7 +1,6 @@
 -- `line::number_digit` meets its contract.
 use Rattle.listing.specs.Line.{number-is}
 use borrow.Author.Needs.{needs}
-use borrow.Author.Needs.{needs}
 use Rattle.listing.proofs.line.number_digit.Statement.{statement}
 use Rattle.listing.proofs.line.number_digit.Tie as tie
 

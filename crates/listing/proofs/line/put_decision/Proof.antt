@@ -1,7 +1,6 @@
 -- `line::put_decision` meets its contract.
 use Rattle.listing.specs.Line.{decision-is}
 use borrow.Author.Needs.{needs}
-use borrow.Author.Needs.{needs}
 use Rattle.listing.proofs.line.put_decision.Statement.{statement}
 use Rattle.listing.proofs.line.put_decision.Tie as tie
 

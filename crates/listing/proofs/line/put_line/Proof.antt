@@ -9,7 +9,6 @@ use Rattle.rules.specs.Sheet.{each}
 use Rattle.rules.specs.Walk.{decisionText}
 use Rattle.listing.specs.Line.{decisionBytes, line-is}
 use borrow.Author.Needs.{needs}
-use borrow.Author.Needs.{needs}
 use Rattle.listing.proofs.line.put_line.Statement.{statement}
 use Rattle.listing.proofs.line.put_line.Tie as tie
 

@@ -1,7 +1,6 @@
 -- `case::agrees` is safe.
 use native.Mathlib.Omega.{arith}
 use borrow.Author.Needs.{needs}
-use borrow.Author.Needs.{needs}
 use Rattle.vectors.proofs.case.agrees.Statement.{statement}
 use Rattle.vectors.proofs.case.agrees.Tie as tie
 

@@ -4,7 +4,6 @@ use mathlib.Core.Bool.{false≢true}
 use native.Mathlib.Omega.{arith}
 use lib.Seq.{length-take-le}
 use borrow.Author.Needs.{needs}
-use borrow.Author.Needs.{needs}
 use Rattle.vectors.proofs.case.begins_with.Statement.{statement}
 use Rattle.vectors.proofs.case.begins_with.Tie as tie
 

@@ -3,7 +3,6 @@ use mathlib.Core.Path.{sym, _∙_, ap}
 use Rattle.vectors.specs.declared.case.Call.{Call}
 use Rattle.vectors.specs.Case.{givenOf}
 use borrow.Author.Needs.{needs}
-use borrow.Author.Needs.{needs}
 use Rattle.vectors.proofs.case.made.Statement.{statement}
 use Rattle.vectors.proofs.case.made.Tie as tie
 
