@@ -151,7 +151,7 @@ pub fn chosen(asked: Asked, d: u8) -> Move
     }
 }
 
-// The same of the threads.
+// Whether a decision is allowed, by the state of the thread that it names.
 pub fn is_allowed(asked: Asked, threads: [Thread; THREADS], d: u8) -> bool
     ensures { λ r. ⌜ r ≡ isAllowed asked threads d ⌝ }
 {
