@@ -1,18 +1,16 @@
 // The store of objects: what each kind's crate says of an operation, a line for each kind; announcing, leaks (loom's rt/object.rs).
 ghost use mathlib.Core.Path.{_≡_};
-ghost use Rattle.rules.specs.Effect.{isFree, actionOf, isDisabled, asks, waitOf, lastDependentAccess};
-ghost use Rattle.rules.specs.Object.{newEntry, noObject, announced, leaks};
-use objects_threads::access;
-use objects_threads::thread::set_blocked;
-use objects_threads::thread::with_phase;
+ghost use Rattle.rules.specs.Effect.{isDisabled, asks, lastDependentAccess};
+ghost use Rattle.rules.specs.Turn.{dependence};
+ghost use Rattle.rules.specs.Object.{newEntry, noObject, leaks};
+use clocks::Clock;
+use clocks::ThreadId;
+use objects_ground::access;
 use rules::access::Access;
-use rules::condvar::Wait;
-use rules::object::Action;
 use rules::object::Entry;
 use rules::object::Kind;
 use rules::table::Call;
 use rules::table::Made;
-use rules::thread::Phase;
 use rules::thread::Thread;
 
 // An object as the table makes it.
@@ -40,46 +38,6 @@ pub fn absent() -> Entry
         kind: Kind::Nothing,
         spurious: false,
     })
-}
-
-// The operation is announced; where it cannot go on, the thread is blocked.
-pub fn branch_disable(phase: Phase, disable: bool, t: Thread) -> Thread
-    ensures { λ r. ⌜ r ≡ announced phase disable t ⌝ }
-{
-    if disable {
-        return set_blocked(with_phase(t, phase));
-    }
-    with_phase(t, phase)
-}
-
-// Releases and all cell operations need no announcement.
-pub fn is_free(call: Call) -> bool
-    ensures { λ r. ⌜ r ≡ isFree call ⌝ }
-{
-    match call {
-        Call::Mutex(c) => objects_mutex::is_free(c),
-        Call::RwLock(c) => objects_rwlock::is_free(c),
-        Call::Condvar(_) => false,
-        Call::Notify(_) => false,
-        Call::Channel(_) => false,
-        Call::Arc(_) => false,
-        Call::Cell(_) => true,
-    }
-}
-
-// The action as which an operation is announced.
-pub fn action_of(call: Call) -> Action
-    ensures { λ r. ⌜ r ≡ actionOf call ⌝ }
-{
-    match call {
-        Call::Mutex(_) => Action::Opaque,
-        Call::RwLock(c) => Action::RwLock(objects_rwlock::action_of(c)),
-        Call::Condvar(_) => Action::Opaque,
-        Call::Notify(_) => Action::Opaque,
-        Call::Channel(c) => Action::Channel(objects_mpsc::action_of(c)),
-        Call::Arc(c) => Action::Arc(objects_arc::action_of(c)),
-        Call::Cell(_) => Action::Opaque,
-    }
 }
 
 // Where an operation is blocked at its announcement.
@@ -127,23 +85,8 @@ pub fn asks(call: Call, e: Entry) -> bool
     }
 }
 
-// The mutex of a condvar wait.
-pub fn wait_of(call: Call) -> Wait
-    ensures { λ r. ⌜ r ≡ waitOf call ⌝ }
-{
-    match call {
-        Call::Condvar(c) => objects_condvar::wait_of(c),
-        Call::Mutex(_) => Wait::Nowhere,
-        Call::RwLock(_) => Wait::Nowhere,
-        Call::Notify(_) => Wait::Nowhere,
-        Call::Channel(_) => Wait::Nowhere,
-        Call::Arc(_) => Wait::Nowhere,
-        Call::Cell(_) => Wait::Nowhere,
-    }
-}
-
 // The last access that an operation depends on.
-pub fn last_dependent_access(call: Call, e: Entry) -> Access
+fn last_dependent_access(call: Call, e: Entry) -> Access
     ensures { λ r. ⌜ r ≡ lastDependentAccess call e ⌝ }
 {
     match call {
@@ -173,6 +116,16 @@ pub fn last_dependent_access(call: Call, e: Entry) -> Access
         }
         Call::Cell(_) => access::new(),
     }
+}
+
+// The last dependent access is joined in, and the own count rises.
+pub fn dependence(t: ThreadId, call: Call, e: Entry, x: Thread) -> Clock
+    ensures { λ r. ⌜ r ≡ dependence t call e x ⌝ }
+{
+    let own = x.dependence;
+    let last = last_dependent_access(call, e);
+    let version = last.version;
+    own.join(version).inc(t)
 }
 
 // An Arc or a channel whose count is not 0.

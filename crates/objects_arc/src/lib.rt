@@ -7,10 +7,10 @@ ghost use Rattle.rules.specs.Arc.{new, leaks, actionOf, lastModification, lastD
 use clocks::Clock;
 use clocks::THREADS;
 use clocks::ThreadId;
-use objects_threads::access;
-use objects_threads::count::one_more;
-use objects_threads::thread::sync_load;
-use objects_threads::thread::sync_store;
+use objects_ground::access;
+use objects_ground::count::one_more;
+use objects_threads::sync_load;
+use objects_threads::sync_store;
 use rules::access::Access;
 use rules::arc::Action;
 use rules::arc::Call;

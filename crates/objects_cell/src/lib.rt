@@ -1,7 +1,7 @@
 // loom's rt/cell.rs.
 ghost use mathlib.Core.Path.{_≡_};
 ghost use mathlib.Core.List.{[]};
-ghost use Rattle.rules.specs.Ground.{isFine, does, fails};
+ghost use Rattle.rules.specs.Ground.{does, fails};
 ghost use Rattle.rules.specs.declared.thread.Answered.the-variants.{Kept};
 ghost use Rattle.rules.specs.declared.cell.Call.the-variants.{StartRead, EndRead, StartWrite, EndWrite};
 ghost use Rattle.rules.specs.Cell.{new, isMisuse, racing, firstRace, trackRead, trackWrite, read, written, left, effect};
@@ -9,10 +9,11 @@ use clocks::Ahead;
 use clocks::Clock;
 use clocks::THREADS;
 use clocks::ThreadId;
-use objects_threads::count::one_less;
-use objects_threads::count::one_more;
-use objects_threads::thread::get;
-use objects_threads::thread::own_count_up;
+use objects_ground::count::one_less;
+use objects_ground::count::one_more;
+use objects_ground::ending::is_fine;
+use objects_threads::get;
+use objects_threads::own_count_up;
 use rules::cell::Call;
 use rules::cell::Effect;
 use rules::cell::State;
@@ -50,17 +51,6 @@ fn racing(a: Ahead) -> Ending
     match a {
         Ahead::Nobody => Ending::Fine,
         Ahead::Threads { mask: _, lowest } => Ending::Race(lowest),
-    }
-}
-
-fn is_fine(e: Ending) -> bool
-    ensures { λ r. ⌜ r ≡ isFine e ⌝ }
-{
-    match e {
-        Ending::Fine => true,
-        Ending::Misuse => false,
-        Ending::NoRoom => false,
-        Ending::Race(_) => false,
     }
 }
 

@@ -8,10 +8,10 @@ ghost use Rattle.rules.specs.Mpsc.{new, isEmpty, leaks, actionOf, isDisabled, l
 use clocks::Clock;
 use clocks::THREADS;
 use clocks::ThreadId;
-use objects_threads::access;
-use objects_threads::thread::others;
-use objects_threads::thread::sync_load;
-use objects_threads::thread::sync_store;
+use objects_ground::access;
+use objects_threads::others;
+use objects_threads::sync_load;
+use objects_threads::sync_store;
 use rules::access::Access;
 use rules::mpsc::Action;
 use rules::mpsc::Call;

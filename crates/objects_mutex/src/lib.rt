@@ -1,14 +1,15 @@
 // loom's rt/mutex.rs.
 ghost use mathlib.Core.Path.{_≡_};
-ghost use Rattle.rules.specs.declared.mutex.Call.the-variants.{AcquireLock, TryAcquireLock, ReleaseLock};
-ghost use Rattle.rules.specs.Mutex.{new, isLocked, isFree, isDisabled, setLastAccess, taking, left, effect};
+ghost use Rattle.rules.specs.declared.mutex.Call.the-variants.{ReleaseLock};
+ghost use Rattle.rules.specs.Ground.{leaves};
+ghost use Rattle.rules.specs.Mutex.{new, isLocked, isFree, isDisabled, setLastAccess, taking, acquiring, left, effect};
 use clocks::Clock;
 use clocks::THREADS;
 use clocks::ThreadId;
-use objects_threads::access;
-use objects_threads::thread::others;
-use objects_threads::thread::sync_load;
-use objects_threads::thread::sync_store;
+use objects_ground::access;
+use objects_threads::others;
+use objects_threads::sync_load;
+use objects_threads::sync_store;
 use rules::access::Access;
 use rules::mutex::Call;
 use rules::mutex::Effect;
@@ -96,46 +97,28 @@ fn post_acquire(
     }
 }
 
-// On a mutex that is held it is misuse.
+// Taken if the mutex is free, with the answer `taken`; on one that is held nothing changes but the ending and the answer.
 fn acquire_lock(
     active: ThreadId,
     object: ObjectId,
+    taken: Answered,
+    barred: Ending,
+    refused: Answered,
     state: State,
     threads: [Thread; THREADS],
 ) -> Effect
-    ensures { λ r. ⌜ r ≡ effect AcquireLock active object state threads ⌝ }
+    ensures { λ r. ⌜ r ≡ left active (acquiring active object taken (leaves barred refused state) state) threads ⌝ }
 {
     let lock = state.lock;
     if is_locked(lock) {
         return Effect {
-            ending: Ending::Misuse,
-            answer: Answered::Kept,
+            ending: barred,
+            answer: refused,
             state: state,
             threads: threads,
         };
     }
-    post_acquire(active, object, Answered::Kept, state, threads)
-}
-
-// A try that fails changes only its answer.
-fn try_acquire_lock(
-    active: ThreadId,
-    object: ObjectId,
-    state: State,
-    threads: [Thread; THREADS],
-) -> Effect
-    ensures { λ r. ⌜ r ≡ effect TryAcquireLock active object state threads ⌝ }
-{
-    let lock = state.lock;
-    if is_locked(lock) {
-        return Effect {
-            ending: Ending::Fine,
-            answer: Answered::Left(0),
-            state: state,
-            threads: threads,
-        };
-    }
-    post_acquire(active, object, Answered::Left(1), state, threads)
+    post_acquire(active, object, taken, state, threads)
 }
 
 // Clears whoever holds the mutex, stores, and wakes every other thread that is announced on it.
@@ -173,8 +156,24 @@ pub fn effect(
     ensures { λ r. ⌜ r ≡ effect call active object state threads ⌝ }
 {
     match call {
-        Call::AcquireLock => acquire_lock(active, object, state, threads),
-        Call::TryAcquireLock => try_acquire_lock(active, object, state, threads),
+        Call::AcquireLock => acquire_lock(
+            active,
+            object,
+            Answered::Kept,
+            Ending::Misuse,
+            Answered::Kept,
+            state,
+            threads,
+        ),
+        Call::TryAcquireLock => acquire_lock(
+            active,
+            object,
+            Answered::Left(1),
+            Ending::Fine,
+            Answered::Left(0),
+            state,
+            threads,
+        ),
         Call::ReleaseLock => release_lock(active, object, state, threads),
     }
 }

@@ -1,15 +1,17 @@
 // loom's rt/rwlock.rs. The readers are a set: a mask with a bit for each thread.
 ghost use mathlib.Core.Path.{_≡_};
-ghost use Rattle.rules.specs.declared.rwlock.Call.the-variants.{AcquireReadLock, AcquireWriteLock, TryAcquireReadLock, TryAcquireWriteLock, ReleaseReadLock, ReleaseWriteLock};
-ghost use Rattle.rules.specs.Ground.{threadAt};
-ghost use Rattle.rules.specs.RwLock.{new, readerBit, isReader, withReader, withoutReader, isWriteLocked, isReadLocked, isFree, actionOf, isDisabled, setLastAccess, reading, writing, leaving, left, effect};
+ghost use Rattle.rules.specs.declared.rwlock.Call.the-variants.{ReleaseReadLock, ReleaseWriteLock};
+ghost use Rattle.rules.specs.Ground.{threadAt, leaves};
+ghost use Rattle.rules.specs.RwLock.{new, isWriteLocked, isReadLocked, isFree, actionOf, isDisabled, setLastAccess, reading, writing, acquiringRead, acquiringWrite, leaving, left, effect};
 use clocks::Clock;
 use clocks::THREADS;
 use clocks::ThreadId;
-use objects_threads::access;
-use objects_threads::thread::others;
-use objects_threads::thread::sync_load;
-use objects_threads::thread::sync_store;
+use objects_ground::access;
+use objects_readers::with_reader;
+use objects_readers::without_reader;
+use objects_threads::others;
+use objects_threads::sync_load;
+use objects_threads::sync_store;
 use rules::access::Access;
 use rules::object::Ending;
 use rules::object::ObjectId;
@@ -30,46 +32,6 @@ pub fn new() -> State
         last_access: access::new(),
         synchronize: Clock::new(),
     }
-}
-
-// A thread's bit of the mask; a number that no thread has has none.
-fn reader_bit(id: ThreadId) -> u16
-    ensures { λ r. ⌜ r ≡ readerBit id ⌝ }
-{
-    let i = id.0 as usize;
-    if i < THREADS {
-        return 1u16 << i;
-    }
-    0
-}
-
-fn is_reader(readers: u16, id: ThreadId) -> bool
-    ensures { λ r. ⌜ r ≡ isReader readers id ⌝ }
-{
-    let i = id.0 as usize;
-    if i < THREADS {
-        return (readers >> i) % 2 == 1;
-    }
-    false
-}
-
-// A set: a thread that is in it already is not counted again.
-fn with_reader(readers: u16, id: ThreadId) -> u16
-    ensures { λ r. ⌜ r ≡ withReader readers id ⌝ }
-{
-    if is_reader(readers, id) {
-        return readers;
-    }
-    readers + reader_bit(id)
-}
-
-fn without_reader(readers: u16, id: ThreadId) -> u16
-    ensures { λ r. ⌜ r ≡ withoutReader readers id ⌝ }
-{
-    if is_reader(readers, id) {
-        return readers - reader_bit(id);
-    }
-    readers
 }
 
 fn is_write_locked(lock: Locked) -> bool
@@ -208,90 +170,50 @@ fn post_acquire_write_lock(
     }
 }
 
-// Taken unless the lock is written.
+// Taken unless the lock is written, with the answer `taken`; else nothing changes but the ending and the answer.
 fn acquire_read_lock(
     active: ThreadId,
     object: ObjectId,
+    taken: Answered,
+    barred: Ending,
+    refused: Answered,
     state: State,
     threads: [Thread; THREADS],
 ) -> Effect
-    ensures { λ r. ⌜ r ≡ effect AcquireReadLock active object state threads ⌝ }
+    ensures { λ r. ⌜ r ≡ left active (acquiringRead active object taken (leaves barred refused state) state) threads ⌝ }
 {
     let lock = state.lock;
     match lock {
-        Locked::Free => post_acquire_read_lock(active, object, Answered::Kept, 0, state, threads),
+        Locked::Free => post_acquire_read_lock(active, object, taken, 0, state, threads),
         Locked::Read(readers) => post_acquire_read_lock(
             active,
             object,
-            Answered::Kept,
+            taken,
             readers,
             state,
             threads,
         ),
-        Locked::Write(_) => unchanged(Ending::Misuse, Answered::Kept, state, threads),
+        Locked::Write(_) => unchanged(barred, refused, state, threads),
     }
 }
 
-// Taken if nobody has the lock.
+// Taken if nobody has the lock, in the same way.
 fn acquire_write_lock(
     active: ThreadId,
     object: ObjectId,
+    taken: Answered,
+    barred: Ending,
+    refused: Answered,
     state: State,
     threads: [Thread; THREADS],
 ) -> Effect
-    ensures { λ r. ⌜ r ≡ effect AcquireWriteLock active object state threads ⌝ }
+    ensures { λ r. ⌜ r ≡ left active (acquiringWrite active object taken (leaves barred refused state) state) threads ⌝ }
 {
     let lock = state.lock;
     match lock {
-        Locked::Free => post_acquire_write_lock(active, object, Answered::Kept, state, threads),
-        Locked::Read(_) => unchanged(Ending::Misuse, Answered::Kept, state, threads),
-        Locked::Write(_) => unchanged(Ending::Misuse, Answered::Kept, state, threads),
-    }
-}
-
-fn try_acquire_read_lock(
-    active: ThreadId,
-    object: ObjectId,
-    state: State,
-    threads: [Thread; THREADS],
-) -> Effect
-    ensures { λ r. ⌜ r ≡ effect TryAcquireReadLock active object state threads ⌝ }
-{
-    let lock = state.lock;
-    match lock {
-        Locked::Free => post_acquire_read_lock(
-            active,
-            object,
-            Answered::Left(1),
-            0,
-            state,
-            threads,
-        ),
-        Locked::Read(readers) => post_acquire_read_lock(
-            active,
-            object,
-            Answered::Left(1),
-            readers,
-            state,
-            threads,
-        ),
-        Locked::Write(_) => unchanged(Ending::Fine, Answered::Left(0), state, threads),
-    }
-}
-
-fn try_acquire_write_lock(
-    active: ThreadId,
-    object: ObjectId,
-    state: State,
-    threads: [Thread; THREADS],
-) -> Effect
-    ensures { λ r. ⌜ r ≡ effect TryAcquireWriteLock active object state threads ⌝ }
-{
-    let lock = state.lock;
-    match lock {
-        Locked::Free => post_acquire_write_lock(active, object, Answered::Left(1), state, threads),
-        Locked::Read(_) => unchanged(Ending::Fine, Answered::Left(0), state, threads),
-        Locked::Write(_) => unchanged(Ending::Fine, Answered::Left(0), state, threads),
+        Locked::Free => post_acquire_write_lock(active, object, taken, state, threads),
+        Locked::Read(_) => unchanged(barred, refused, state, threads),
+        Locked::Write(_) => unchanged(barred, refused, state, threads),
     }
 }
 
@@ -381,10 +303,42 @@ pub fn effect(
     ensures { λ r. ⌜ r ≡ effect call active object state threads ⌝ }
 {
     match call {
-        Call::AcquireReadLock => acquire_read_lock(active, object, state, threads),
-        Call::AcquireWriteLock => acquire_write_lock(active, object, state, threads),
-        Call::TryAcquireReadLock => try_acquire_read_lock(active, object, state, threads),
-        Call::TryAcquireWriteLock => try_acquire_write_lock(active, object, state, threads),
+        Call::AcquireReadLock => acquire_read_lock(
+            active,
+            object,
+            Answered::Kept,
+            Ending::Misuse,
+            Answered::Kept,
+            state,
+            threads,
+        ),
+        Call::AcquireWriteLock => acquire_write_lock(
+            active,
+            object,
+            Answered::Kept,
+            Ending::Misuse,
+            Answered::Kept,
+            state,
+            threads,
+        ),
+        Call::TryAcquireReadLock => acquire_read_lock(
+            active,
+            object,
+            Answered::Left(1),
+            Ending::Fine,
+            Answered::Left(0),
+            state,
+            threads,
+        ),
+        Call::TryAcquireWriteLock => acquire_write_lock(
+            active,
+            object,
+            Answered::Left(1),
+            Ending::Fine,
+            Answered::Left(0),
+            state,
+            threads,
+        ),
         Call::ReleaseReadLock => release_read_lock(active, object, state, threads),
         Call::ReleaseWriteLock => release_write_lock(active, object, state, threads),
     }

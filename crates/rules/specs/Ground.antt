@@ -203,9 +203,12 @@ pub record Does (S : Type 0) : Type 0 where
   pub state : S
   pub touches : List Touch
 
--- one that goes well, and one that fails, which leaves all as it was
+-- one that goes well, one that leaves all as it was, and of these one that fails
 abbrev pub does : {S : Type 0} → Answered → S → List Touch → Does S
 does n s xs = record { ending = Fine; answer = n; state = s; touches = xs }
 
+abbrev pub leaves : {S : Type 0} → Ending → Answered → S → Does S
+leaves e n s = record { ending = e; answer = n; state = s; touches = [] }
+
 abbrev pub fails : {S : Type 0} → Ending → S → Does S
-fails e s = record { ending = e; answer = Kept; state = s; touches = [] }
+fails e s = leaves e Kept s

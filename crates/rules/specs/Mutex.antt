@@ -54,10 +54,14 @@ taking active o n s =
 abbrev pub releasing : ObjectId → Clock → State → Does State
 releasing o by s = does Kept (record { lock = Free; «last_access» = s .«last_access»; synchronize = stored by (s .synchronize) }) (passes Wake o ∷ [])
 
+-- taken if it is free, else as `barred` says
+abbrev pub acquiring : ThreadId → ObjectId → Answered → Does State → State → Does State
+acquiring active o n barred s = elim (isLocked (s .lock)) [ true ↦ barred | false ↦ taking active o n s ]
+
 -- what an operation does; `by` is the active thread's clock. "A try that fails changes only its answer."
 unfoldable pub doing : Call → ThreadId → ObjectId → Clock → State → Does State
-doing AcquireLock active o by s = elim (isLocked (s .lock)) [ true ↦ fails Misuse s | false ↦ taking active o Kept s ]
-doing TryAcquireLock active o by s = elim (isLocked (s .lock)) [ true ↦ does (Left 0) s [] | false ↦ taking active o (Left 1) s ]
+doing AcquireLock active o by s = acquiring active o Kept (fails Misuse s) s
+doing TryAcquireLock active o by s = acquiring active o (Left 1) (does (Left 0) s []) s
 doing ReleaseLock active o by s = releasing o by s
 
 -- the effect: what it does, with its touches done

@@ -63,8 +63,8 @@ inState f d = record { ending = d .ending; answer = d .answer; state = f (d .sta
 module _ (t : ThreadId) (o : ObjectId) (by : Clock) where
   mutex-noted : (c : MutexCall) (x : Access) (s : MutexState) → mutex.doing c t o by (mutex.setLastAccess x s) ≡ inState (mutex.setLastAccess x) (mutex.doing c t o by s)
   unfolding mutex.doing
-  mutex-noted mutex-call.AcquireLock x s = split (mutex.isLocked (s .lock)) (λ h. rw (mutex.doing, h)) (λ h. rw (mutex.doing, h))
-  mutex-noted mutex-call.TryAcquireLock x s = split (mutex.isLocked (s .lock)) (λ h. rw (mutex.doing, h)) (λ h. rw (mutex.doing, h))
+  mutex-noted mutex-call.AcquireLock x s = split (mutex.isLocked (s .lock)) (λ h. rw (mutex.doing, mutex.acquiring, h)) (λ h. rw (mutex.doing, mutex.acquiring, h))
+  mutex-noted mutex-call.TryAcquireLock x s = split (mutex.isLocked (s .lock)) (λ h. rw (mutex.doing, mutex.acquiring, h)) (λ h. rw (mutex.doing, mutex.acquiring, h))
   mutex-noted mutex-call.ReleaseLock x s = refl
 
   rwlock-noted : (c : RwLockCall) (x : Access) (s : RwLockState) (l : Locked) → s .lock ≡ l → rwlock.doing c t o by (rwlock.setLastAccess x s) ≡ inState (rwlock.setLastAccess x) (rwlock.doing c t o by s)

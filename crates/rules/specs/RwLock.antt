@@ -102,14 +102,20 @@ freeing o by s = does Kept (locked Free (stored by (s .synchronize)) s) (passes 
 abbrev pub leaving : ObjectId → Clock → ℕ → State → Does State
 leaving o by mask s = elim (eqb mask 0) [ true ↦ freeing o by s | false ↦ does Kept (locked (Read mask) (stored by (s .synchronize)) s) [] ]
 
+-- taken unless the lock is written, and if nobody has it; else as `barred` says
+abbrev pub acquiringRead : ThreadId → ObjectId → Answered → Does State → State → Does State
+acquiringRead active o n barred s = elim (s .lock) [ Free ↦ reading active o n 0 s | Read mask ↦ reading active o n mask s | Write t ↦ barred ]
+
+abbrev pub acquiringWrite : ThreadId → ObjectId → Answered → Does State → State → Does State
+acquiringWrite active o n barred s = elim (s .lock) [ Free ↦ writing active o n s | Read mask ↦ barred | Write t ↦ barred ]
+
 -- what an operation does; `by` is the active thread's clock. "in the same cases 35 and 36 fail at their effect"; "release_write at any state, frees it";
 -- "release_read by a non-member changes the clock only; on no read lock it is misuse"
 unfoldable pub doing : Call → ThreadId → ObjectId → Clock → State → Does State
-doing AcquireReadLock active o by s = elim (s .lock) [ Free ↦ reading active o Kept 0 s | Read mask ↦ reading active o Kept mask s | Write t ↦ fails Misuse s ]
-doing AcquireWriteLock active o by s = elim (s .lock) [ Free ↦ writing active o Kept s | Read mask ↦ fails Misuse s | Write t ↦ fails Misuse s ]
-doing TryAcquireReadLock active o by s =
-    elim (s .lock) [ Free ↦ reading active o (Left 1) 0 s | Read mask ↦ reading active o (Left 1) mask s | Write t ↦ does (Left 0) s [] ]
-doing TryAcquireWriteLock active o by s = elim (s .lock) [ Free ↦ writing active o (Left 1) s | Read mask ↦ does (Left 0) s [] | Write t ↦ does (Left 0) s [] ]
+doing AcquireReadLock active o by s = acquiringRead active o Kept (fails Misuse s) s
+doing AcquireWriteLock active o by s = acquiringWrite active o Kept (fails Misuse s) s
+doing TryAcquireReadLock active o by s = acquiringRead active o (Left 1) (does (Left 0) s []) s
+doing TryAcquireWriteLock active o by s = acquiringWrite active o (Left 1) (does (Left 0) s []) s
 doing ReleaseReadLock active o by s = elim (s .lock) [ Free ↦ fails Misuse s | Read mask ↦ leaving o by (withoutReader mask active) s | Write t ↦ fails Misuse s ]
 doing ReleaseWriteLock active o by s = freeing o by s
 

@@ -3,28 +3,12 @@ ghost use mathlib.Core.Path.{_≡_};
 ghost use Rattle.rules.specs.Answer.{numbersOf};
 ghost use Rattle.rules.specs.Judge.{judgeOf};
 ghost use Rattle.rules.specs.Walk.{firstOf, nextOf};
-ghost use Rattle.skeldurn.specs.Word.{wordOf, numbersIn};
-use rules::answer::Numbers;
+ghost use Rattle.word.specs.Word.{wordOf, numbersIn};
 use turns::judge;
 use turns_answer::numbers;
 use walk::first;
 use walk::next;
-
-fn wide(n: u8) -> u64
-    ensures { λ r. ⌜ r ≡ n ⌝ }
-{
-    n as u64
-}
-
-// An answer in one word: number, place, thread, position, object, other from the lowest bit on.
-fn word(n: Numbers) -> u64
-    ensures { λ r. ⌜ r ≡ wordOf n ⌝ }
-{
-    let place = (n.place % 65536) as u64;
-    let low = wide(n.number) + 256 * place + 16777216 * wide(n.thread);
-    let high = 4294967296 * wide(n.position) + 1099511627776 * wide(n.object);
-    low + high + 281474976710656 * (n.other as u64)
-}
+use word::word;
 
 // Judges a list: the answer in one word, from which all six numbers can be had again, and the sheet.
 #[no_mangle]

@@ -6,7 +6,7 @@ ghost use Rattle.rules.specs.declared.thread.State.the-variants.{Runnable, Bloc
 ghost use Rattle.threads.specs.Passes.{statedAt};
 use clocks::Clock;
 use clocks::ThreadId;
-use objects_threads::thread;
+use objects_record;
 use rules::object::ObjectId;
 use rules::thread::State;
 use rules::thread::Thread;
@@ -20,8 +20,8 @@ fn stated_at(t: Thread, k: usize, object: ObjectId, active: ThreadId, s: State) 
         return t;
     }
     let phase = t.phase;
-    if thread::is_on(phase, object) {
-        return thread::with_state(t, s);
+    if objects_record::is_on(phase, object) {
+        return objects_record::with_state(t, s);
     }
     t
 }
@@ -42,21 +42,21 @@ fn blocked_at(t: Thread, k: usize, object: ObjectId, active: ThreadId) -> Thread
 pub fn set_runnable(t: &mut Thread)
     ensures { λ _. ⌜ now (t .exit) ≡ setRunnable (now (t .entry)) ⌝ }
 {
-    *t = thread::set_runnable(*t);
+    *t = objects_record::set_runnable(*t);
 }
 
 // Drops a stored unpark.
 pub fn set_blocked(t: &mut Thread)
     ensures { λ _. ⌜ now (t .exit) ≡ setBlocked (now (t .entry)) ⌝ }
 {
-    *t = thread::set_blocked(*t);
+    *t = objects_record::set_blocked(*t);
 }
 
 // The clock `by` is joined in, also into a thread that has ended.
 pub fn unpark(t: &mut Thread, by: Clock)
     ensures { λ _. ⌜ now (t .exit) ≡ unpark by (now (t .entry)) ⌝ }
 {
-    *t = thread::unpark(*t, by);
+    *t = objects_record::unpark(*t, by);
 }
 
 // Wakes every other thread that is announced on the object; the record at index k is thread k's.

@@ -3,7 +3,7 @@ ghost use mathlib.Core.Path.{_≡_};
 ghost use lib.ListN.{getD};
 ghost use Rattle.rules.specs.Object.{noObject};
 ghost use Rattle.rules.specs.Table.{kindNumber, kindOf, isKind, mutexFine, objectsFine};
-use objects::wait_of;
+use objects_calls::wait_of;
 use rules::condvar::Wait;
 use rules::object::Kind;
 use rules::object::OBJECTS;

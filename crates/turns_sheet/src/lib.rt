@@ -8,7 +8,7 @@ ghost use Rattle.rules.specs.Limits.{maxObjects};
 ghost use Rattle.rules.specs.Sheet.{filled, each, threadBytes, objectsBytes, sheetOf, recordLength, objectsLength, sheetLength};
 use clocks::THREADS;
 use clocks::ThreadId;
-use objects_threads::thread::get;
+use objects_threads::get;
 use rules::condvar::WAITERS;
 use rules::mpsc::MESSAGES;
 use rules::object::Entry;

@@ -1,6 +1,6 @@
 -- The steps that change their object, by what each does to it and to the threads, and that they are the steps of `Step`.
 use mathlib.Core.Path.{_≡_, refl, sym, _∙_, ap}
-use mathlib.Core.Bool.{Bool, true, false, false≢true}
+use mathlib.Core.Bool.{Bool, true, false, not, false≢true}
 use mathlib.Core.List.{List, [], _∷_}
 use Prim.Native.Nat.{ℕ, zero, suc}
 use lib.ListN.{getD, set}
@@ -69,7 +69,7 @@ use Rattle.turns_steps.specs.declared.Acting.{Acting}
 use Rattle.turns_steps.specs.declared.Acting.the-variants.{Moves, InEffect, Over, Done}
 use Rattle.turns_steps.specs.Step as step
 use Rattle.turns_steps.specs.Step.{Scene, Moved, with, inTurn, spotIn, failing, thereafter, operation, act}
-use Rattle.turns_steps.specs.Quiet.{who, isBegun, rests, not, stops, isQuiet}
+use Rattle.turns_steps.specs.Quiet.{who, isBegun, rests, stops, isQuiet}
 
 -- the operation that takes effect, the turn it is in, and who is asked then
 abbrev pub again : Phase → Op → Op

@@ -1,6 +1,6 @@
 -- The steps that leave their object as it is, by what each does to its thread, and that they are the steps of `Step`.
 use mathlib.Core.Path.{_≡_, refl, sym, _∙_, ap}
-use mathlib.Core.Bool.{Bool, true, false, false≢true}
+use mathlib.Core.Bool.{Bool, true, false, not, false≢true}
 use mathlib.Core.List.{List}
 use Prim.Native.Nat.{ℕ}
 use lib.Dec.{leb}
@@ -90,10 +90,6 @@ rests Nothing = true
 rests (Announced p) = false
 rests Parked = true
 rests (Retaking p) = false
-
-abbrev pub not : Bool → Bool
-not true = false
-not false = true
 
 unfoldable pub stops : Bool → Call → Bool
 stops left c = elim left [ true ↦ not (isFree c) | false ↦ true ]

@@ -5,9 +5,9 @@ ghost use Rattle.turns_steps.specs.Quiet.{who, isBegun, subjectIn, place
 ghost use Rattle.turns_steps.specs.Step.{firstSubject, placeAt, chosen};
 use clocks::THREADS;
 use clocks::ThreadId;
-use objects::wait_of;
-use objects_threads::thread::get;
-use objects_threads::thread::is_runnable;
+use objects_calls::wait_of;
+use objects_record::is_runnable;
+use objects_threads::get;
 use rules::answer::Answer;
 use rules::condvar::Wait;
 use rules::object::ObjectId;

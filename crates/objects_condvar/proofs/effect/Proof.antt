@@ -30,10 +30,10 @@ returns c =
     c .wait .ensures _ ∙ sym (ap (λ (k : Call). effect k (a .active) (a .state) (a .threads)) (c .before .enum-told .given .1))
 
 returns-2 : tie.Need-returns-2
-returns-2 c = cc
+returns-2 c = rw (c .before .enum-told2 .given .1) (c .notify-one .ensures)
 
 returns-3 : tie.Need-returns-3
-returns-3 c = cc
+returns-3 c = rw (c .before .enum-told3 .given .1) (c .notify-all .ensures)
 
 pub effect-spec : {M : Type 1} → statement M
 effect-spec =

@@ -8,7 +8,7 @@ use Rattle.rules.specs.Answer.{numbersOf}
 use Rattle.rules.specs.Judge.{Given}
 use Rattle.rules.specs.Walk.{firstOf}
 use Rattle.theorems.specs.Places.{first-place}
-use Rattle.skeldurn.specs.Word.{Fits, told}
+use Rattle.word.specs.Word.{Fits, told}
 use borrow.Author.Needs.{needs}
 use Rattle.skeldurn.proofs.skeldurn_first.Statement.{statement}
 use Rattle.skeldurn.proofs.skeldurn_first.Tie as tie

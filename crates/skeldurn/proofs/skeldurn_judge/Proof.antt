@@ -7,7 +7,7 @@ use Rattle.rules.specs.Limits.{maxSheet}
 use Rattle.rules.specs.Answer.{numbersOf}
 use Rattle.rules.specs.Judge.{Given, judgeOf}
 use Rattle.theorems.specs.Places.{judge-place}
-use Rattle.skeldurn.specs.Word.{Fits, told}
+use Rattle.word.specs.Word.{Fits, told}
 use borrow.Author.Needs.{needs}
 use Rattle.skeldurn.proofs.skeldurn_judge.Statement.{statement}
 use Rattle.skeldurn.proofs.skeldurn_judge.Tie as tie

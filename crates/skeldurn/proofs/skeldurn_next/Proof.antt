@@ -8,7 +8,7 @@ use Rattle.rules.specs.Answer.{numbersOf}
 use Rattle.rules.specs.Judge.{Given}
 use Rattle.rules.specs.Walk.{nextOf}
 use Rattle.theorems.specs.Places.{next-place}
-use Rattle.skeldurn.specs.Word.{Fits, told}
+use Rattle.word.specs.Word.{Fits, told}
 use borrow.Author.Needs.{needs}
 use Rattle.skeldurn.proofs.skeldurn_next.Statement.{statement}
 use Rattle.skeldurn.proofs.skeldurn_next.Tie as tie

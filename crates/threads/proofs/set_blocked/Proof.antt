@@ -9,8 +9,8 @@ use contract.Running.{GhostRules, Running}
 use Rattle.lent.specs.Lent.{Told, lent}
 use Rattle.rules.specs.declared.thread.Thread.{Thread}
 use Rattle.rules.specs.Ground.{setBlocked}
-use Rattle.objects_threads.proofs.thread.set_blocked.Symbol as g
-use Rattle.objects_threads.proofs.thread.set_blocked.Met as g-thm
+use Rattle.objects_record.proofs.set_blocked.Symbol as g
+use Rattle.objects_record.proofs.set_blocked.Met as g-thm
 use Rattle.threads.proofs.Data.{thread}
 use Rattle.threads.proofs.set_blocked as f
 use Rattle.threads.proofs.set_blocked.Key.{name as #f}

@@ -9,8 +9,8 @@ use contract.Running.{GhostRules, Running}
 use Rattle.lent.specs.Lent.{Told, lent}
 use Rattle.rules.specs.declared.thread.Thread.{Thread}
 use Rattle.rules.specs.Ground.{setRunnable}
-use Rattle.objects_threads.proofs.thread.set_runnable.Symbol as g
-use Rattle.objects_threads.proofs.thread.set_runnable.Met as g-thm
+use Rattle.objects_record.proofs.set_runnable.Symbol as g
+use Rattle.objects_record.proofs.set_runnable.Met as g-thm
 use Rattle.threads.proofs.Data.{thread}
 use Rattle.threads.proofs.set_runnable as f
 use Rattle.threads.proofs.set_runnable.Key.{name as #f}

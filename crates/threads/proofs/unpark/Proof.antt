@@ -11,8 +11,8 @@ use Rattle.clocks.specs.declared.clock.Clock.{Clock}
 use Rattle.rules.specs.declared.thread.Thread.{Thread}
 use Rattle.rules.specs.Ground.{unpark}
 use Rattle.threads.proofs.Data.{thread, clock}
-use Rattle.objects_threads.proofs.thread.unpark.Symbol as g
-use Rattle.objects_threads.proofs.thread.unpark.Met as g-thm
+use Rattle.objects_record.proofs.unpark.Symbol as g
+use Rattle.objects_record.proofs.unpark.Met as g-thm
 use Rattle.threads.proofs.unpark as f
 use Rattle.threads.proofs.unpark.Key.{name as #f}
 use Rattle.threads.proofs.unpark.Statement as stated
