@@ -2,4 +2,10 @@
 pub mod Datum
 pub mod Lent
 pub mod LentOne
-pub mod SweepTwo
+pub mod Gives
+pub mod SweepEach
+pub mod Loan
+pub mod LoanSlice
+pub mod Again
+pub mod AgainOne
+pub mod Itself

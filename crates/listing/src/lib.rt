@@ -1,7 +1,8 @@
 // What the program `runs` prints of a table: a line for each of its runs.
 mod line;
 
-ghost use Prim.Native.Nat.{_≤_, _<_};
+ghost use mathlib.Core.Path.{_≡_};
+ghost use Prim.Native.Nat.{_≤_, _<_, min};
 ghost use lib.ListN.{length};
 use line::put_line;
 use rules::answer::Answer;
@@ -9,7 +10,6 @@ use rules::table::LIST;
 use rules::table::SHEET;
 use turns::judge;
 use turns_answer::numbers;
-use walk::at_most;
 use walk::first;
 use walk::next;
 
@@ -19,6 +19,12 @@ const TABLE: usize = 2048;
 const OUT: usize = 65536;
 // More than the longest line.
 const LINE: usize = 2048;
+
+fn at_most(n: usize, most: usize) -> usize
+    ensures { λ r. ⌜ r ≡ min n most ⌝ }
+{
+    if n < most { n } else { most }
+}
 
 // Nothing says that an input ends, so the reads are counted down, from a number that no run uses up.
 fn pass_over(from: i32) {

@@ -1,20 +1,17 @@
 // All threads, and the passes over them (loom's rt/thread.rs, rt/synchronize.rs).
 ghost use mathlib.Core.Path.{_≡_};
-ghost use Rattle.rules.specs.Ground.{threadAt, putThread, unparkThread, isWrite, isRecv, actionOf, blockedIf, changed, others, stored, loaded, ownCountUp};
+ghost use Rattle.clocks.specs.Pass.{passFrom};
+ghost use Rattle.objects_pass.specs.Passes.{passAt};
+ghost use Rattle.rules.specs.Ground.{threadAt, putThread, unparkThread, others, stored, loaded, ownCountUp};
 use clocks::Clock;
 use clocks::THREADS;
 use clocks::ThreadId;
+use objects_pass::Pass;
+use objects_pass::pass_over;
 use objects_record::absent;
-use objects_record::is_on;
-use objects_record::set_blocked;
-use objects_record::set_runnable;
 use objects_record::unpark;
-use rules::mpsc;
-use rules::object::Action;
 use rules::object::ObjectId;
-use rules::rwlock;
 use rules::thread::Change;
-use rules::thread::Phase;
 use rules::thread::Thread;
 
 // A thread by its number; one that there is none of is absent.
@@ -39,63 +36,13 @@ pub fn put(mut threads: [Thread; THREADS], id: ThreadId, t: Thread) -> [Thread; 
     threads
 }
 
-fn action_of(p: Phase) -> Action
-    ensures { λ r. ⌜ r ≡ actionOf p ⌝ }
+// The array is lent to the pass.
+fn passed(threads: [Thread; THREADS], p: Pass) -> [Thread; THREADS]
+    ensures { λ r. ⌜ r ≡ passFrom (passAt p) 0 threads ⌝ }
 {
-    match p {
-        Phase::Nothing => Action::Opaque,
-        Phase::Announced(op) => op.action,
-        Phase::Parked => Action::Opaque,
-        Phase::Retaking(op) => op.action,
-    }
-}
-
-fn is_write(a: Action) -> bool
-    ensures { λ r. ⌜ r ≡ isWrite a ⌝ }
-{
-    match a {
-        Action::RwLock(b) => match b {
-            rwlock::Action::Read => false,
-            rwlock::Action::Write => true,
-        },
-        Action::Arc(_) => false,
-        Action::Channel(_) => false,
-        Action::Opaque => false,
-    }
-}
-
-fn is_recv(a: Action) -> bool
-    ensures { λ r. ⌜ r ≡ isRecv a ⌝ }
-{
-    match a {
-        Action::Channel(b) => match b {
-            mpsc::Action::MsgSend => false,
-            mpsc::Action::MsgRecv => true,
-        },
-        Action::Arc(_) => false,
-        Action::RwLock(_) => false,
-        Action::Opaque => false,
-    }
-}
-
-fn blocked_if(test: bool, t: Thread) -> Thread
-    ensures { λ r. ⌜ r ≡ blockedIf test t ⌝ }
-{
-    if test { set_blocked(t) } else { t }
-}
-
-// What a pass does to a thread that is announced on the object; `by` is the active thread's clock.
-fn changed(change: Change, by: Clock, t: Thread) -> Thread
-    ensures { λ r. ⌜ r ≡ changed change by t ⌝ }
-{
-    let phase = t.phase;
-    match change {
-        Change::Wake => set_runnable(t),
-        Change::Block => set_blocked(t),
-        Change::BlockWriters => blocked_if(is_write(action_of(phase)), t),
-        Change::BlockReceivers => blocked_if(is_recv(action_of(phase)), t),
-        Change::Unpark => unpark(t, by),
-    }
+    let mut out = threads;
+    pass_over(&mut out, p);
+    out
 }
 
 // Every other thread that is announced on the object, changed. The records of the rest are not written.
@@ -108,18 +55,13 @@ pub fn others(
     ensures { λ r. ⌜ r ≡ others change active object threads ⌝ }
 {
     let by = get(threads, active).clock;
-    let a = active.0 as usize;
-    let mut out = threads;
-    for k in 0..THREADS {
-        let t = out[k];
-        let phase = t.phase;
-        if k != a {
-            if is_on(phase, object) {
-                out[k] = changed(change, by, t);
-            }
-        }
-    }
-    out
+    let p = Pass {
+        change: change,
+        active: active,
+        object: object,
+        by: by,
+    };
+    passed(threads, p)
 }
 
 // The unpark of one thread; of the active one it does nothing.

@@ -122,12 +122,16 @@ module _ (bs : List ℕ) (read : TableRead) (e : read ≡ readOf (readTable bs))
     unfolding judgeOf judgeTable
     judged-refused a t = sym (ap (λ (r : Read). judgeTable r list buffer) (was-refused a t))
 
-    pub judged-short : read .taken ≡ Accepted → length buffer < sheetLength (read .table) → untouched (TooShort (sheetLength (read .table))) buffer ≡ judgeOf bs list buffer
-    unfolding judgeOf judgeTable
-    judged-short t h =
-        sym (ap (λ (r : Read). judgeTable r list buffer) (was-accepted t) ∙ rw (judgeTable, lt-leb (sheetLength (read .table)) (length buffer) h))
+    pub judged-accepted : read .taken ≡ Accepted → judgeTable (accepted (read .table)) list buffer ≡ judgeOf bs list buffer
+    unfolding judgeOf
+    judged-accepted t = sym (ap (λ (r : Read). judgeTable r list buffer) (was-accepted t))
 
-    pub judged-shown : read .taken ≡ Accepted → sheetLength (read .table) ≤ length buffer
-        → shown (read .table) (judge (step (read .table)) 0 (start (read .table)) list) buffer ≡ judgeOf bs list buffer
-    unfolding judgeOf judgeTable
-    judged-shown t h = sym (ap (λ (r : Read). judgeTable r list buffer) (was-accepted t) ∙ rw (judgeTable, le-leb (sheetLength (read .table)) (length buffer) h))
+-- an accepted table, by the room that its sheet has
+module _ (table : Table) (list buffer : List ℕ) where
+  pub judged-short : length buffer < sheetLength table → untouched (TooShort (sheetLength table)) buffer ≡ judgeTable (accepted table) list buffer
+  unfolding judgeTable
+  judged-short h = sym (rw (judgeTable, lt-leb (sheetLength table) (length buffer) h))
+
+  pub judged-shown : sheetLength table ≤ length buffer → shown table (judge (step table) 0 (start table) list) buffer ≡ judgeTable (accepted table) list buffer
+  unfolding judgeTable
+  judged-shown h = sym (rw (judgeTable, le-leb (sheetLength table) (length buffer) h))

@@ -7,7 +7,8 @@ ghost use Rattle.clocks.specs.Pass.{passFrom};
 ghost use Rattle.rules.specs.Ground.{absent};
 ghost use Rattle.rules.specs.Object.{newEntry};
 ghost use Rattle.rules.specs.Turn.{startThread, start};
-ghost use Rattle.rules.specs.Judge.{judgeOf};
+ghost use Rattle.rules.specs.Judge.{judgeTable, judgeOf};
+ghost use Rattle.rules.specs.Table.{accepted};
 ghost use Rattle.turns.specs.Start.{isMade, isShown, answerOf, showing};
 use clocks::THREADS;
 use objects_record::absent;
@@ -128,21 +129,28 @@ fn show(table: Table, end: End, world: World, sheet: &mut [u8]) -> Answer
     answer_of(end)
 }
 
+// A table that was accepted: the room for the sheet, then the list as it runs.
+fn judged(table: Table, list: &[u8], sheet: &mut [u8]) -> Answer
+    ensures { λ r. ⌜ record { answer = r; buffer = now (sheet .exit) } ≡ judgeTable (accepted table) (now (list .entry)) (now (sheet .entry)) ⌝ }
+{
+    let needed = sheet_length(table);
+    if sheet.len() < needed {
+        return Answer::TooShort(needed);
+    }
+    let ran = run(table, start(table), list);
+    let end = ran.end;
+    let world = ran.world;
+    show(table, end, world, sheet)
+}
+
 pub fn judge(table: &[u8], list: &[u8], sheet: &mut [u8]) -> Answer
     ensures { λ r. ⌜ record { answer = r; buffer = now (sheet .exit) } ≡ judgeOf (now (table .entry)) (now (list .entry)) (now (sheet .entry)) ⌝ }
 {
     let read = read_table(table);
     let taken = read.taken;
     let t = read.table;
-    if let Taken::Refused(a) = taken {
-        return a;
-    }
-    let needed = sheet_length(t);
-    if sheet.len() < needed {
-        return Answer::TooShort(needed);
-    }
-    let ran = run(t, start(t), list);
-    let end = ran.end;
-    let world = ran.world;
-    show(t, end, world, sheet)
+    let Taken::Refused(a) = taken else {
+        return judged(t, list, sheet);
+    };
+    a
 }

@@ -1,20 +1,17 @@
 -- What is handed over, as the code makes it.
-use mathlib.Core.Path.{_≡_, refl, sym, _∙_, ap}
+use mathlib.Core.Path.{_≡_, refl, sym, _∙_, ap, subst}
 use mathlib.Core.Bool.{true, false}
 use mathlib.Core.Option.{Option, some}
-use mathlib.Core.List.{List, [], _∷_, _++_}
-use Prim.Native.Nat.{ℕ, _+_, _-_, _≤_, _<_}
-use native.Mathlib.Numerals.{add-one}
+use mathlib.Core.List.{List, _++_}
+use Prim.Native.Nat.{ℕ, _≤_, _<_}
 use native.Mathlib.Omega.{arith}
-use lib.ListN.{length, take, drop, set, length-set}
-use lib.Seq.{take-suc-set, take-at, length-take-le, append-snoc}
+use lib.ListN.{length, take, drop}
+use lib.Seq.{take-at, length-take-le}
 use borrow.Author.Tests.{le-leb, lt-leb}
 use Rattle.lists.specs.Judge.{Judged, notAllowed, surplus, unfinished, verdict, judge}
-use Rattle.lists.specs.Greedy.{goOn, greedy}
 use Rattle.lists.specs.Next.{Pivot, finish, raised}
 use Rattle.lists.specs.Next as next
 use Rattle.lists.specs.Code.{copied-length}
-use Rattle.lists.specs.Split.{Progress, advanced-made}
 use Rattle.rules.specs.declared.answer.Answer.{Answer}
 use Rattle.rules.specs.declared.answer.Answer.the-variants.{ListWritten, TooShort, NotAllowed, Surplus, NotComplete, NoLaterList}
 use Rattle.rules.specs.declared.table.Table.{Table}
@@ -22,22 +19,23 @@ use Rattle.rules.specs.declared.table.Taken.the-variants.{Accepted, Refused}
 use Rattle.rules.specs.declared.table.TableRead.{TableRead}
 use Rattle.rules.specs.declared.world.World.{World}
 use Rattle.rules.specs.Limits.{maxList}
-use Rattle.rules.specs.Table.{Read, readTable, readOf}
+use Rattle.rules.specs.Table.{accepted, Read, readTable, readOf}
 use Rattle.rules.specs.TableLaws.{read-within}
 use Rattle.rules.specs.Turn.{start}
 use Rattle.rules.specs.Judge.{Verdict, step, Given, untouched}
 use Rattle.rules.specs.Walk.{decisions, left, handOver, firstTable, firstOf, nextList, nextJudged, nextTable, nextOf}
 use Rattle.turns_run.specs.declared.End.{End}
 use Rattle.turns_run.specs.declared.End.the-variants as end
-use Rattle.turns_run.specs.declared.Ran.{Ran}
 use Rattle.turns_run.specs.Run.{ranOf}
 use Rattle.turns.specs.Start.{was-refused, was-accepted}
-use Rattle.walk.specs.declared.Progress as code
+use Rattle.walk.specs.declared.Completion.{Completion}
 use Rattle.walk.specs.declared.Mark.{Mark}
 use Rattle.walk.specs.declared.Passed.{Passed}
+use Rattle.theorems.specs.Falling.{Good}
 use Rattle.theorems.specs.Length.{start-left, left-some}
-use Rattle.walk.specs.Says.{stageOf, Completed, pivotOf, Started, PassSays, Raisable, raisedTo}
-use Rattle.walk.specs.Passes.{start-enough, raised-enough}
+use Rattle.theorems.specs.Accepted.{start-good}
+use Rattle.walk.specs.Says.{Completable, Continues, Completes, pivotOf, Started, PassSays, Raisable, raisedTo}
+use Rattle.walk.specs.Completing.{raised-least}
 
 module _ (from buffer : List ℕ) (n : ℕ) (h : n ≤ length from) where
   long : length (take n from) ≡ n
@@ -64,54 +62,46 @@ left-few table b = omega (arith, start-left table (b .within), b .within .thread
 pub place-few : (table : Table) (l : List ℕ) (m : Mark) → Raisable table l m → m .at < maxList
 place-few table l m r = omega (arith, r .placed .few, left-few table (r .started), left-some table (r .started .within) (m .world) (r .placed .good))
 
--- the decisions of a completion
-made-of : (table : Table) (n : ℕ) (p : code.Progress) (l : List ℕ) (r : code.Progress) (m : List ℕ) → Completed table n p l r m
-    → take (r .at) m ≡ take (p .at) l ++ goOn (stageOf (p .ran)) (greedy (step table) decisions n)
-made-of table n p l r m x = sym (ap (λ (q : Progress World Verdict). q .made) (x .goes)) ∙ advanced-made (step table) decisions n (stageOf (p .ran)) (take (p .at) l)
+-- the first list: the completion of the empty one
+module _ (table : Table) (b : Started table) (w : World) (e : w ≡ start table) (l : List ℕ) where
+  abbrev from : Completion
+  from = record { table = table; world = w; list = l; at = 0 }
 
-pub first-made : (table : Table) → Started table → (w : World) → w ≡ start table → (l : List ℕ) (r : code.Progress) (m : List ℕ)
-    → Completed table (maxList + 1) (record { ran = record { end = end.Unfinished; world = w }; at = 0 }) l r m
-    → take (r .at) m ≡ next.firstOf (step table) decisions (left table) (start table)
-unfolding next.firstOf
-first-made table b w e l r m x =
-    made-of table (maxList + 1) (record { ran = record { end = end.Unfinished; world = w }; at = 0 }) l r m x ∙ ap (greedy (step table) decisions (maxList + 1)) e ∙ start-enough table b (maxList + 1) (omega (arith, left-few table b))
+  pub first-ready : length l ≡ maxList → Completable from
+  first-ready long = record {
+    within = b .within;
+    good = subst (Good table) (sym e) (start-good table (b .within) (b .some));
+    few = omega (arith, ap (left table) e, left-few table b);
+    long = long;
+  }
+
+  pub first-made : (r : Completion) → Completes from r → take (r .at) (r .list) ≡ next.firstOf (step table) decisions (left table) (start table)
+  first-made r x = x .made ∙ raised-least table w ∙ ap (next.firstOf (step table) decisions (left table)) e
 
 -- a list is raised: copied up to the mark, then the mark's decision, then the completion
-module _ (table : Table) (l : List ℕ) (k : Mark) (h : Raisable table l k) (s : List ℕ) (room : length s ≡ maxList + 2) (b : List ℕ) (copied : b ≡ take (k .at) l ++ drop (k .at) s) where
+module _ (table : Table) (l : List ℕ) (k : Mark) (h : Raisable table l k) (s : List ℕ) (long : length s ≡ maxList) (b : List ℕ) (copied : b ≡ take (k .at) l ++ drop (k .at) s) where
   abbrev i : ℕ
   i = k .at
 
-  abbrev begun : List ℕ
-  begun = set b i (k .decision)
-
-  few : i < maxList
-  few = place-few table l k h
+  abbrev kept : Completion
+  kept = record { table = table; world = k .world; list = b; at = i }
 
   in-list : i ≤ length l
   in-list = omega (arith, h .placed .inside)
 
-  copied-room : length b ≡ maxList + 2
-  copied-room = ap length copied ∙ copied-length l s i in-list (omega (arith, few, room)) ∙ room
+  pub raised-ready : Completable kept
+  raised-ready = record {
+    within = h .started .within;
+    good = h .placed .good;
+    few = omega (arith, h .placed .few, left-few table (h .started));
+    long = ap length copied ∙ copied-length l s i in-list (omega (arith, place-few table l k h, long)) ∙ long;
+  }
 
-  begun-made : take (i + 1) begun ≡ take i l ++ k .decision ∷ []
-  begun-made =
-      rw add-one (take-suc-set b i (k .decision) (omega (arith, copied-room, few)))
-      ∙ ap (λ (z : List ℕ). take i z ++ k .decision ∷ []) copied
-      ∙ ap (λ (z : List ℕ). z ++ k .decision ∷ []) (take-at (take i l) (drop i s) i (length-take-le i l in-list))
-
-  pub raised-room : (q : Ran) (r : code.Progress) (m : List ℕ) → Completed table (maxList + 1 - i) (record { ran = q; at = i + 1 }) begun r m → r .at ≤ length m
-  raised-room q r m x = omega (arith, x .high, x .size, length-set b i (k .decision), copied-room, few)
-
-  pub raised-made : (q : Ran) → stageOf q ≡ step table (k .world) (k .decision) → (r : code.Progress) (m : List ℕ)
-      → Completed table (maxList + 1 - i) (record { ran = q; at = i + 1 }) begun r m → take (r .at) m ≡ raisedTo table l k
-  unfolding raised
-  raised-made q e r m x =
-      let n : ℕ = maxList + 1 - i in
-      let rest : List ℕ = goOn (step table (k .world) (k .decision)) (greedy (step table) decisions n) in
-      made-of table n (record { ran = q; at = i + 1 }) begun r m x
-      ∙ (λ j. begun-made j ++ goOn (e j) (greedy (step table) decisions n))
-      ∙ append-snoc (take i l) (k .decision) rest
-      ∙ ap (λ (z : List ℕ). take i l ++ k .decision ∷ z) (raised-enough table (h .started) (k .world) (k .decision) n (h .placed .good) (omega (arith, h .placed .few, left-few table (h .started))))
+  pub raised-made : (r : Completion) → Continues kept (k .decision) r → take (r .at) (r .list) ≡ raisedTo table l k
+  raised-made r x =
+      x .made
+      ∙ ap (λ (z : List ℕ). take i z ++ raised (step table) decisions (left table) (k .world) (k .decision)) copied
+      ∙ ap (λ (z : List ℕ). z ++ raised (step table) decisions (left table) (k .world) (k .decision)) (take-at (take i l) (drop i s) i (length-take-le i l in-list))
 
 -- what the table's reader hands back, and what the whole call then comes to
 module _ (bs : List ℕ) (read : TableRead) (e : read ≡ readOf (readTable bs)) where
@@ -123,45 +113,50 @@ module _ (bs : List ℕ) (read : TableRead) (e : read ≡ readOf (readTable bs))
     unfolding firstOf firstTable
     first-refused a t = sym (ap (λ (r : Read). firstTable r buffer) (was-refused bs read e a t))
 
-    pub first-given : read .taken ≡ Accepted → handOver (next.firstOf (step (read .table)) decisions (left (read .table)) (start (read .table))) buffer ≡ firstOf bs buffer
-    unfolding firstOf firstTable
-    first-given t = sym (ap (λ (r : Read). firstTable r buffer) (was-accepted bs read e t))
+    pub first-accepted : read .taken ≡ Accepted → firstTable (accepted (read .table)) buffer ≡ firstOf bs buffer
+    unfolding firstOf
+    first-accepted t = sym (ap (λ (r : Read). firstTable r buffer) (was-accepted bs read e t))
 
     module _ (list : List ℕ) where
       pub next-refused : (a : Answer) → read .taken ≡ Refused a → untouched a buffer ≡ nextOf bs list buffer
       unfolding nextOf nextTable
       next-refused a t = sym (ap (λ (r : Read). nextTable r list buffer) (was-refused bs read e a t))
 
-      -- what is given by how the list ends
-      abbrev pub givenBy : End → Option (List ℕ) → Given
-      givenBy (end.NotAllowed i) found = untouched (NotAllowed i) buffer
-      givenBy (end.Surplus i) found = untouched (Surplus i) buffer
-      givenBy end.Unfinished found = untouched NotComplete buffer
-      givenBy (end.Verdict a) found = nextList found buffer
+      pub next-accepted : read .taken ≡ Accepted → nextTable (accepted (read .table)) list buffer ≡ nextOf bs list buffer
+      unfolding nextOf
+      next-accepted t = sym (ap (λ (r : Read). nextTable r list buffer) (was-accepted bs read e t))
 
-      by-end : (j : Judged World Verdict) (found : Option (List ℕ)) → givenBy (ranOf j .end) found ≡ nextJudged j found buffer
-      unfolding nextJudged ranOf
-      by-end (notAllowed i) found = refl
-      by-end (surplus i) found = refl
-      by-end (unfinished v) found = refl
-      by-end (verdict v) found = refl
+-- an accepted table: its first list, and what is given by how a list ends
+pub first-given : (table : Table) (buffer : List ℕ) → handOver (next.firstOf (step table) decisions (left table) (start table)) buffer ≡ firstTable (accepted table) buffer
+unfolding firstTable
+first-given table buffer = refl
 
-      module _ (t : read .taken ≡ Accepted) (p : Passed) (says : PassSays (read .table) list p) where
-        abbrev table : Table
-        table = read .table
+module _ (table : Table) (buffer list : List ℕ) where
+  abbrev pub givenBy : End → Option (List ℕ) → Given
+  givenBy (end.NotAllowed i) found = untouched (NotAllowed i) buffer
+  givenBy (end.Surplus i) found = untouched (Surplus i) buffer
+  givenBy end.Unfinished found = untouched NotComplete buffer
+  givenBy (end.Verdict a) found = nextList found buffer
 
-        pub next-given : (x : End) → p .end ≡ x → givenBy x (finish (step table) decisions (left table) list (pivotOf (p .mark))) ≡ nextOf bs list buffer
-        unfolding nextOf nextTable next.nextOf
-        next-given x q =
-            ap (λ (y : End). givenBy y (finish (step table) decisions (left table) list (pivotOf (p .mark)))) (sym q ∙ says .ends)
-            ∙ by-end (judge (step table) 0 (start table) list) (finish (step table) decisions (left table) list (pivotOf (p .mark)))
-            ∙ ap (λ (z : Pivot World). nextJudged (judge (step table) 0 (start table) list) (finish (step table) decisions (left table) list z) buffer) (says .pivot)
-            ∙ sym (ap (λ (r : Read). nextTable r list buffer) (was-accepted bs read e t))
+  by-end : (j : Judged World Verdict) (found : Option (List ℕ)) → givenBy (ranOf j .end) found ≡ nextJudged j found buffer
+  unfolding nextJudged ranOf
+  by-end (notAllowed i) found = refl
+  by-end (surplus i) found = refl
+  by-end (unfinished v) found = refl
+  by-end (verdict v) found = refl
 
-        pub next-none : (a : Answer) → p .end ≡ end.Verdict a → p .mark .found ≡ false → untouched NoLaterList buffer ≡ nextOf bs list buffer
-        unfolding nextList
-        next-none a q f = let z = next-given (end.Verdict a) q in rw f at z
+  module _ (p : Passed) (says : PassSays table list p) where
+    pub next-given : (x : End) → p .end ≡ x → givenBy x (finish (step table) decisions (left table) list (pivotOf (p .mark))) ≡ nextTable (accepted table) list buffer
+    unfolding nextTable next.nextOf
+    next-given x q =
+        ap (λ (y : End). givenBy y (finish (step table) decisions (left table) list (pivotOf (p .mark)))) (sym q ∙ says .ends)
+        ∙ by-end (judge (step table) 0 (start table) list) (finish (step table) decisions (left table) list (pivotOf (p .mark)))
+        ∙ ap (λ (z : Pivot World). nextJudged (judge (step table) 0 (start table) list) (finish (step table) decisions (left table) list z) buffer) (says .pivot)
 
-        pub next-raised : (a : Answer) → p .end ≡ end.Verdict a → p .mark .found ≡ true → (g : Given) → g ≡ handOver (raisedTo table list (p .mark)) buffer → g ≡ nextOf bs list buffer
-        unfolding nextList
-        next-raised a q f g h = let z = next-given (end.Verdict a) q in h ∙ rw f at z
+    pub next-none : (a : Answer) → p .end ≡ end.Verdict a → p .mark .found ≡ false → untouched NoLaterList buffer ≡ nextTable (accepted table) list buffer
+    unfolding nextList
+    next-none a q f = let z = next-given (end.Verdict a) q in rw f at z
+
+    pub next-raised : (a : Answer) → p .end ≡ end.Verdict a → p .mark .found ≡ true → (g : Given) → g ≡ handOver (raisedTo table list (p .mark)) buffer → g ≡ nextTable (accepted table) list buffer
+    unfolding nextList
+    next-raised a q f g h = let z = next-given (end.Verdict a) q in h ∙ rw f at z

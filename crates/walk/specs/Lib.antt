@@ -1,4 +1,5 @@
 pub mod Says
 pub mod Decided
+pub mod Completing
 pub mod Passes
 pub mod Handed

@@ -9,9 +9,9 @@ use native.Mathlib.Numerals.{add-one}
 use native.Mathlib.Omega.{arith}
 use lib.ListN.{length, drop, getD}
 use borrow.Author.Tests.{lt-ltb, le-ltb}
-use Rattle.lists.specs.Rules.{Outcome, refused, done, wants}
+use Rattle.lists.specs.Rules.{refused, wants}
 use Rattle.lists.specs.Judge.{Judged}
-use Rattle.lists.specs.Greedy.{seek, larger, goOn, greedy, greedy-enough}
+use Rattle.lists.specs.Greedy.{seek, larger}
 use Rattle.lists.specs.Next.{Pivot, at, pass}
 use Rattle.lists.specs.Code.{pass-end, pass-refused, pass-done, pass-wants, judge-end, judge-refused, judge-last, judge-surplus, judge-wants}
 use Rattle.rules.specs.declared.answer.Answer.{Answer}
@@ -23,8 +23,7 @@ use Rattle.rules.specs.Walk.{decisions, left}
 use Rattle.turns_run.specs.declared.End.the-variants as end
 use Rattle.turns_run.specs.Run.{ranOf}
 use Rattle.walk.specs.declared.Mark.{Mark}
-use Rattle.theorems.specs.Falling.{Good}
-use Rattle.theorems.specs.Machine.{bounded, some-allowed, keeps, falls}
+use Rattle.theorems.specs.Machine.{keeps, falls}
 use Rattle.theorems.specs.Accepted.{start-good}
 use Rattle.walk.specs.Decided.{least-is}
 use Rattle.walk.specs.Says.{stageAt, pivotOf, Marked, Started, Placed, Passing, PassSays}
@@ -115,19 +114,3 @@ module _ (table : Table) (begun : Started table) where
                 ∙ ap (λ (z : Pivot World). pass (step table) decisions (left table) z (i + 1) v (drop (i + 1) l)) (sym (x .is table));
             placed = there;
           }
-
-  -- more decisions than are left change nothing
-  pub start-enough : (n : ℕ) → left table (start table) < n → greedy (step table) decisions n (start table) ≡ greedy (step table) decisions (suc (left table (start table))) (start table)
-  start-enough n h =
-      greedy-enough (step table) decisions (left table) (Good table) (bounded table (begun .within)) (some-allowed table (begun .within)) (keeps table (begun .within)) (falls table (begun .within)) n (suc (left table (start table))) (start table) (start-good table (begun .within) (begun .some)) h (omega arith)
-
-  pub raised-enough : (w : World) (d n : ℕ) → Good table w → left table w ≤ n
-      → goOn (step table w d) (greedy (step table) decisions n) ≡ goOn (step table w d) (greedy (step table) decisions (left table w))
-  raised-enough w d n g h = go (step table w d) refl
-    where
-      go : (o : Outcome World Verdict) → step table w d ≡ o → goOn o (greedy (step table) decisions n) ≡ goOn o (greedy (step table) decisions (left table w))
-      go refused e = refl
-      go (done v) e = refl
-      go (wants v) e =
-          let f = falls table (begun .within) w d v g e in
-          greedy-enough (step table) decisions (left table) (Good table) (bounded table (begun .within)) (some-allowed table (begun .within)) (keeps table (begun .within)) (falls table (begun .within)) n (left table w) v (keeps table (begun .within) w d v g e) (omega (arith, f, h)) f

@@ -4,13 +4,14 @@ use mathlib.Core.Logic.{_⊎_}
 use mathlib.Core.Bool.{Bool, true, false, cond}
 use mathlib.Core.List.{List, _++_}
 use Prim.Native.Nat.{ℕ, _+_, _≤_, _<_}
-use lib.ListN.{length, take, drop}
+use lib.ListN.{length, take, drop, set}
 use Rattle.lists.specs.Rules.{Outcome, refused, done, wants}
 use Rattle.lists.specs.Judge.{judge}
+use Rattle.lists.specs.Greedy.{smallest}
 use Rattle.lists.specs.Next.{Pivot, nowhere, at, raised, better, pass}
-use Rattle.lists.specs.Code.{Carried}
 use Rattle.rules.specs.declared.table.Table.{Table}
 use Rattle.rules.specs.declared.world.World.{World}
+use Rattle.rules.specs.Limits.{maxList}
 use Rattle.rules.specs.TableLaws.{Within}
 use Rattle.rules.specs.Turn.{start}
 use Rattle.rules.specs.Judge.{Verdict, step}
@@ -19,7 +20,7 @@ use Rattle.turns_run.specs.declared.End.{End}
 use Rattle.turns_run.specs.declared.End.the-variants as end
 use Rattle.turns_run.specs.declared.Ran.{Ran}
 use Rattle.turns_run.specs.Run.{ranOf}
-use Rattle.walk.specs.declared.Progress.{Progress}
+use Rattle.walk.specs.declared.Completion.{Completion}
 use Rattle.walk.specs.declared.Mark.{Mark}
 use Rattle.walk.specs.declared.Passed.{Passed}
 use Rattle.theorems.specs.Falling.{Good}
@@ -40,9 +41,42 @@ isOver (end.Surplus i) = true
 isOver end.Unfinished = false
 isOver (end.Verdict a) = true
 
--- from p and the bytes l to r and the bytes m, by n decisions at most
-abbrev pub Completed : Table → ℕ → Progress → List ℕ → Progress → List ℕ → Type 0
-Completed table n p l r m = Carried (step table) decisions n (stageOf (p .ran)) (p .at) l (stageOf (r .ran)) (r .at) m
+-- where a decision leads: another is wanted in the world w, or none is
+abbrev pub Leads : Outcome World Verdict → World → Bool → Type 0
+Leads o w true = o ≡ wants w
+Leads o w false = (v : World) → o ≡ wants v → ⊥
+
+-- the completion r is c with the decision d
+pub record With (c : Completion) (d : ℕ) (r : Completion) (wanted : Bool) : Type 0 where
+  pub table : r .table ≡ c .table
+  pub list : r .list ≡ set (c .list) (c .at) d
+  pub at : r .at ≡ c .at + 1
+  pub leads : Leads (step (c .table) (c .world) d) (r .world) wanted
+
+-- it is so where the list has room
+abbrev pub Extends : Completion → ℕ → Completion → Bool → Type 0
+Extends c d r wanted = c .at < maxList → With c d r wanted
+
+abbrev pub least : Completion → ℕ
+least c = smallest (step (c .table)) decisions (c .world)
+
+abbrev pub Advances : Completion → Completion → Bool → Type 0
+Advances c r wanted = Extends c (least c) r wanted
+
+-- a completion may go on: the list has room for the decisions that are left
+pub record Completable (c : Completion) : Type 0 where
+  pub within : Within (c .table)
+  pub good : Good (c .table) (c .world)
+  pub few : c .at + left (c .table) (c .world) ≤ maxList
+  pub long : length (c .list) ≡ maxList
+
+-- the list of r is that of c, the decision d, and the smallest completion
+pub record Continues (c : Completion) (d : ℕ) (r : Completion) : Type 0 where
+  pub made : take (r .at) (r .list) ≡ take (c .at) (c .list) ++ raised (step (c .table)) decisions (left (c .table)) (c .world) d
+  pub inside : r .at ≤ length (r .list)
+
+abbrev pub Completes : Completion → Completion → Type 0
+Completes c r = Continues c (least c) r
 
 -- the pivot that a mark is
 abbrev pub pivotOf : Mark → Pivot World

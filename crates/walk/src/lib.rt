@@ -1,13 +1,14 @@
 // Every run of a table, in order: the smallest complete list, and the smallest one above another.
 ghost use mathlib.Core.Path.{_≡_};
 ghost use mathlib.Core.List.{_++_};
-ghost use Prim.Native.Nat.{_+_, _-_, _≤_, _<_, min};
+ghost use Prim.Native.Nat.{_-_, _≤_};
 ghost use lib.ListN.{length, take, drop};
 ghost use Rattle.lists.specs.Greedy.{seek};
 ghost use Rattle.rules.specs.Turn.{isAllowed};
 ghost use Rattle.rules.specs.Judge.{step};
-ghost use Rattle.rules.specs.Walk.{decisions, handOver, firstOf, nextOf};
-ghost use Rattle.walk.specs.Says.{isOver, stageOf, Completed, Marked, Started, PassSays, Raisable, raisedTo};
+ghost use Rattle.rules.specs.Table.{accepted};
+ghost use Rattle.rules.specs.Walk.{decisions, handOver, firstTable, firstOf, nextTable, nextOf};
+ghost use Rattle.walk.specs.Says.{isOver, stageOf, Extends, Advances, Completable, Continues, Completes, Marked, Started, PassSays, Raisable, raisedTo};
 use clocks::THREADS;
 use rules::answer::Answer;
 use rules::table::LIST;
@@ -23,13 +24,18 @@ use turns_run::run;
 use turns_steps::is_allowed;
 use turns_table::read_table;
 
-// One decision more than the longest list has is tried, and one more has room.
-const ROOM: usize = LIST + 2;
-
-// How far a completion has come, and the number of decisions in its list.
-pub struct Progress {
-    pub ran: Ran,
+// A completion on its way: the table, the world where it stands, and its list so far, the first `at` bytes.
+pub struct Completion {
+    pub table: Table,
+    pub world: World,
+    pub list: [u8; LIST],
     pub at: usize,
+}
+
+// A completion with one decision more, and whether another is wanted.
+pub struct Further {
+    pub completion: Completion,
+    pub wanted: bool,
 }
 
 // The last place so far where a larger decision is allowed, the world there, and that decision.
@@ -78,56 +84,84 @@ fn is_over(end: End) -> bool
     }
 }
 
-// One more decision, the smallest allowed, unless there is a verdict.
-fn one(table: Table, p: Progress, list: &mut [u8]) -> Progress
-    requires { ⌜ p .at < length (now list) ⌝ }
-    ensures { λ r. ⌜ Completed table 1 p (now (list .entry)) r (now (list .exit)) ⌝ }
+// The decision d. A list that is full stays as it is; none that is completed ever is.
+fn extended(c: Completion, d: u8) -> Further
+    ensures { λ r. ⌜ Extends c d (r .completion) (r .wanted) ⌝ }
 {
-    let ran = p.ran;
-    let end = ran.end;
-    if is_over(end) {
-        return p;
+    let at = c.at;
+    if at >= LIST {
+        return Further {
+            completion: c,
+            wanted: false,
+        };
     }
-    let world = ran.world;
+    let table = c.table;
+    let world = c.world;
+    let mut list = c.list;
+    list[at] = d;
+    let ran = decide(table, world, d);
+    let end = ran.end;
+    let then = ran.world;
+    Further {
+        completion: Completion {
+            table: table,
+            world: then,
+            list: list,
+            at: at + 1,
+        },
+        wanted: !is_over(end),
+    }
+}
+
+// The smallest allowed decision.
+fn advanced(c: Completion) -> Further
+    ensures { λ r. ⌜ Advances c (r .completion) (r .wanted) ⌝ }
+{
+    let world = c.world;
     let asked = world.asked;
     let threads = world.threads;
-    let at = p.at;
     let d = least(asked, threads, 0) as u8;
-    list[at] = d;
-    Progress {
-        ran: decide(table, world, d),
-        at: at + 1,
+    extended(c, d)
+}
+
+fn advance(c: &mut Completion) -> bool
+    ensures { λ r. ⌜ Advances (now (c .entry)) (now (c .exit)) r ⌝ }
+{
+    let r = advanced(*c);
+    *c = r.completion;
+    r.wanted
+}
+
+// It calls itself, once for each decision. All of it is lent, so that a call takes little stack.
+fn complete(c: &mut Completion)
+    requires { ⌜ Completable (now c) ⌝ }
+    ensures { λ _. ⌜ Completes (now (c .entry)) (now (c .exit)) ⌝ }
+{
+    if advance(c) {
+        complete(c);
     }
 }
 
-pub fn at_most(n: usize, most: usize) -> usize
-    ensures { λ r. ⌜ r ≡ min n most ⌝ }
+fn completed(c: Completion) -> Completion
+    requires { ⌜ Completable c ⌝ }
+    ensures { λ r. ⌜ Completes c r ⌝ }
 {
-    if n < most { n } else { most }
+    let mut u = c;
+    complete(&mut u);
+    u
 }
 
-// At most n more decisions. It calls itself for a sixteenth of them at a time, so that it is never more than four calls deep.
-fn complete(table: Table, p: Progress, list: &mut [u8], n: usize) -> Progress
-    requires { ⌜ p .at + n ≤ length (now list) ⌝ }
-    ensures { λ r. ⌜ Completed table n p (now (list .entry)) r (now (list .exit)) ⌝ }
+// The decision d, and then the smallest completion.
+fn continued(c: Completion, d: u8) -> Completion
+    requires { ⌜ Completable c ⌝ }
+    ensures { λ r. ⌜ Continues c d r ⌝ }
 {
-    if n == 1 {
-        return one(table, p, list);
+    let r = extended(c, d);
+    let u = r.completion;
+    if r.wanted {
+        return completed(u);
     }
-    let part = n / 16 + 1;
-    let mut q = p;
-    let mut left = n;
-    while left > 0 {
-        let ran = q.ran;
-        let end = ran.end;
-        if is_over(end) {
-            return q;
-        }
-        let k = at_most(part, left);
-        q = complete(table, q, list, k);
-        left -= k;
-    }
-    q
+    u
 }
 
 // The first n bytes of `from` into `list`.
@@ -154,26 +188,34 @@ fn hand_over(from: &[u8], n: usize, list: &mut [u8]) -> Answer
     Answer::TooShort(n)
 }
 
+// The smallest complete list of a table that was accepted.
+fn first_of(table: Table, list: &mut [u8]) -> Answer
+    requires { ⌜ Started table ⌝ }
+    ensures { λ r. ⌜ record { answer = r; buffer = now (list .exit) } ≡ firstTable (accepted table) (now (list .entry)) ⌝ }
+{
+    let empty = [0u8; LIST];
+    let c = Completion {
+        table: table,
+        world: start(table),
+        list: empty,
+        at: 0,
+    };
+    let r = completed(c);
+    let made = r.list;
+    let n = r.at;
+    hand_over(&made, n, list)
+}
+
 pub fn first(table: &[u8], list: &mut [u8]) -> Answer
     ensures { λ r. ⌜ record { answer = r; buffer = now (list .exit) } ≡ firstOf (now (table .entry)) (now (list .entry)) ⌝ }
 {
     let read = read_table(table);
     let taken = read.taken;
     let t = read.table;
-    if let Taken::Refused(a) = taken {
-        return a;
-    }
-    let mut scratch = [0u8; ROOM];
-    let p = Progress {
-        ran: Ran {
-            end: End::Unfinished,
-            world: start(t),
-        },
-        at: 0,
+    let Taken::Refused(a) = taken else {
+        return first_of(t, list);
     };
-    let r = complete(t, p, &mut scratch, ROOM - 1);
-    let n = r.at;
-    hand_over(&scratch, n, list)
+    a
 }
 
 // The mark after the decision d at index i.
@@ -254,31 +296,29 @@ fn raise(table: Table, list: &[u8], m: Mark, out: &mut [u8]) -> Answer
     requires { ⌜ Raisable table (now list) m ⌝ }
     ensures { λ r. ⌜ record { answer = r; buffer = now (out .exit) } ≡ handOver (raisedTo table (now (list .entry)) m) (now (out .entry)) ⌝ }
 {
-    let mut scratch = [0u8; ROOM];
+    let mut kept = [0u8; LIST];
     let at = m.at;
     let d = m.decision;
     let world = m.world;
-    copy(list, at, &mut scratch);
-    scratch[at] = d;
-    let p = Progress {
-        ran: decide(table, world, d),
-        at: at + 1,
+    copy(list, at, &mut kept);
+    let c = Completion {
+        table: table,
+        world: world,
+        list: kept,
+        at: at,
     };
-    let r = complete(table, p, &mut scratch, ROOM - 1 - at);
+    let r = continued(c, d);
+    let made = r.list;
     let n = r.at;
-    hand_over(&scratch, n, out)
+    hand_over(&made, n, out)
 }
 
-pub fn next(table: &[u8], list: &[u8], out: &mut [u8]) -> Answer
-    ensures { λ r. ⌜ record { answer = r; buffer = now (out .exit) } ≡ nextOf (now (table .entry)) (now (list .entry)) (now (out .entry)) ⌝ }
+// The smallest complete list above another, of a table that was accepted.
+fn next_of(table: Table, list: &[u8], out: &mut [u8]) -> Answer
+    requires { ⌜ Started table ⌝ }
+    ensures { λ r. ⌜ record { answer = r; buffer = now (out .exit) } ≡ nextTable (accepted table) (now (list .entry)) (now (out .entry)) ⌝ }
 {
-    let read = read_table(table);
-    let taken = read.taken;
-    let t = read.table;
-    if let Taken::Refused(a) = taken {
-        return a;
-    }
-    let p = pass(t, list);
+    let p = pass(table, list);
     let end = p.end;
     let m = p.mark;
     match end {
@@ -287,9 +327,21 @@ pub fn next(table: &[u8], list: &[u8], out: &mut [u8]) -> Answer
         End::Unfinished => Answer::NotComplete,
         End::Verdict(_) => {
             if m.found {
-                return raise(t, list, m, out);
+                return raise(table, list, m, out);
             }
             Answer::NoLaterList
         }
     }
+}
+
+pub fn next(table: &[u8], list: &[u8], out: &mut [u8]) -> Answer
+    ensures { λ r. ⌜ record { answer = r; buffer = now (out .exit) } ≡ nextOf (now (table .entry)) (now (list .entry)) (now (out .entry)) ⌝ }
+{
+    let read = read_table(table);
+    let taken = read.taken;
+    let t = read.table;
+    let Taken::Refused(a) = taken else {
+        return next_of(t, list, out);
+    };
+    a
 }
