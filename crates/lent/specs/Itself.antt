@@ -43,7 +43,7 @@ use denote.Triple.Table.{cited}
 use denote.Triple.Clauses.{Clauses, closing, ensured, lasts}
 use denote.Triple.Walked.{says, needs, Stays, stay-ref, walkOf, goes-ref, ends-at, walked-at, walk-meets-at}
 use denote.Triple.Cycle.{Stated, Graded, Below, measured, at-on, mutual-elim}
-use Rattle.lent.specs.Datum.{Datum, row, vals, flag}
+use Rattle.lent.specs.Datum.{Datum, row, flag}
 use Rattle.lent.specs.Lent.{by-ref}
 use Rattle.lent.specs.Gives as asks
 

@@ -1,7 +1,7 @@
--- The laws in the shape that code asks for: a search that counts up, a progress whose decisions lie in a buffer, a pass at an index.
+-- The laws in the shape that code asks for: a search that counts up, a completion by one decision and then the rest, a pass at an index.
 --     seek-end, seek-hit, seek-miss   the search from k to top
---     Carried                         n decisions carried a progress from the first p bytes of a buffer l to the first r bytes of m
---     carried-none, carried-one, carried-two   no decision; one written at its place; a and then b of them
+--     raised-smallest                 the smallest decision, raised to, begins the smallest list
+--     raised-last, raised-wants       a decision ends its list, or the smallest list from the next world follows
 --     pass-end, pass-refused, pass-done, pass-wants, and the same for judge   the pass at index i of a list
 --     copied-more, copied-length      the first bytes of a list, copied over a buffer
 use mathlib.Core.Path.{_≡_, refl, sym, _∙_, ap}
@@ -10,13 +10,12 @@ use mathlib.Core.List.{List, [], _∷_, _++_}
 use Prim.Native.Nat.{ℕ, zero, suc, _+_, _-_, _≤_, _<_}
 use native.Mathlib.Numerals.{add-one}
 use native.Mathlib.Omega.{arith}
-use lib.ListN.{length, take, drop, getD, set, length-set, length-append, length-drop}
-use lib.Seq.{take-suc, take-suc-set, drop-set-lt, drop-drop, drop-cons, set-at, length-take-le, append-snoc}
+use lib.ListN.{length, take, drop, getD, set, length-append, length-drop}
+use lib.Seq.{take-suc, drop-cons, set-at, length-take-le, append-snoc}
 use Rattle.lists.specs.Rules.{Outcome, refused, done, wants}
-use Rattle.lists.specs.Greedy.{seek, smallest}
-use Rattle.lists.specs.Next.{Pivot, better, pass}
+use Rattle.lists.specs.Greedy.{seek, goOn, smallest, greedy, greedy-enough}
+use Rattle.lists.specs.Next.{Pivot, firstOf, raised, better, pass}
 use Rattle.lists.specs.Judge.{notAllowed, surplus, unfinished, verdict, judge}
-use Rattle.lists.specs.Split.{Progress, advanced, advanced-zero, advanced-one, advanced-add, advanced-done, advanced-refused}
 
 module _ (p : ℕ → Bool) (top k : ℕ) where
   pub seek-end : top ≤ k → seek p (top - k) k ≡ k
@@ -31,63 +30,30 @@ module _ (p : ℕ → Bool) (top k : ℕ) where
   unfolding seek
   seek-miss h t = let e : top - k ≡ suc (top - suc k) = omega arith in rw (e, t, add-one)
 
-module _ {W Verdict : Type 0} (decide : W → ℕ → Outcome W Verdict) (top : ℕ) where
-  -- from the outcome o and the first p bytes of l to the outcome s and the first r bytes of m, by n decisions at most
-  pub record Carried (n : ℕ) (o : Outcome W Verdict) (p : ℕ) (l : List ℕ) (s : Outcome W Verdict) (r : ℕ) (m : List ℕ) : Type 0 where
-    pub goes : advanced decide top n (record { stage = o; made = take p l }) ≡ record { stage = s; made = take r m }
-    pub rest : drop r m ≡ drop r l
-    pub size : length m ≡ length l
-    pub low : p ≤ r
-    pub high : r ≤ p + n
+module _ {W Verdict : Type 0} (decide : W → ℕ → Outcome W Verdict) (top : ℕ) (left : W → ℕ) where
+  pub raised-smallest : (w : W) → raised decide top left w (smallest decide top w) ≡ firstOf decide top left w
+  unfolding raised firstOf greedy
+  raised-smallest w = refl
 
-  pub carried-none : (o : Outcome W Verdict) (p : ℕ) (l : List ℕ) → Carried 0 o p l o p l
-  carried-none o p l = record { goes = advanced-zero decide top _; rest = refl; size = refl; low = omega arith; high = omega arith }
-
-  -- after a verdict, and after a refusal, any number of decisions is none
-  pub carried-done : (n : ℕ) (v : Verdict) (p : ℕ) (l : List ℕ) → Carried n (done v) p l (done v) p l
-  carried-done n v p l = record { goes = advanced-done decide top n v (take p l); rest = refl; size = refl; low = omega arith; high = omega arith }
-
-  pub carried-refused : (n p : ℕ) (l : List ℕ) → Carried n refused p l refused p l
-  carried-refused n p l = record { goes = advanced-refused decide top n (take p l); rest = refl; size = refl; low = omega arith; high = omega arith }
-
-  -- one decision, stored at its place
-  pub carried-one : (w : W) (p : ℕ) (l : List ℕ) → p < length l
-      → Carried 1 (wants w) p l (decide w (smallest decide top w)) (p + 1) (set l p (smallest decide top w))
-  carried-one w p l h = record {
-    goes = advanced-one decide top _ ∙ ap (λ (k : List ℕ). put k) (sym (rw add-one (take-suc-set l p (smallest decide top w) h)));
-    rest = rw add-one (drop-set-lt (suc p) l p (smallest decide top w) (omega arith));
-    size = length-set l p (smallest decide top w);
-    low = omega arith;
-    high = omega arith;
-  }
+  pub raised-last : (w : W) (d : ℕ) → ((v : W) → decide w d ≡ wants v → ⊥) → raised decide top left w d ≡ d ∷ []
+  unfolding raised
+  raised-last w d h = go (decide w d) h
     where
-      put : List ℕ → Progress W Verdict
-      put k = record { stage = decide w (smallest decide top w); made = k }
+      go : (o : Outcome W Verdict) → ((v : W) → o ≡ wants v → ⊥) → d ∷ goOn o (greedy decide top (left w)) ≡ d ∷ []
+      go refused n = refl
+      go (done v) n = refl
+      go (wants v) n = absurd (n v refl)
 
-  -- a decisions and then b
-  pub carried-two : (a b n : ℕ) (o : Outcome W Verdict) (p : ℕ) (l : List ℕ) (s : Outcome W Verdict) (q : ℕ) (m : List ℕ) (t : Outcome W Verdict) (r : ℕ) (k : List ℕ)
-      → a + b ≡ n → Carried a o p l s q m → Carried b s q m t r k → Carried n o p l t r k
-  carried-two a b n o p l s q m t r k e x y =
-      let xl = x .low in
-      let yl = y .low in
-      let xh = x .high in
-      let yh = y .high in
-      record {
-        goes =
-            ap (λ (j : ℕ). advanced decide top j (record { stage = o; made = take p l })) (sym e)
-            ∙ advanced-add decide top a b _
-            ∙ ap (advanced decide top b) (x .goes)
-            ∙ y .goes;
-        rest = y .rest ∙ further m l q r (y .low) (x .rest);
-        size = y .size ∙ x .size;
-        low = omega arith;
-        high = omega arith;
-      }
-    where
-      further : (m l : List ℕ) (q r : ℕ) → q ≤ r → drop q m ≡ drop q l → drop r m ≡ drop r l
-      further m l q r h e =
-          let f : r ≡ q + (r - q) = omega arith in
-          rw f (sym (drop-drop (r - q) q m) ∙ ap (drop (r - q)) e ∙ drop-drop (r - q) q l)
+module _ {W Verdict : Type 0} (decide : W → ℕ → Outcome W Verdict) (top : ℕ) (left : W → ℕ) (Good : W → Type 0)
+    (bounded : (w : W) (d : ℕ) → Good w → top ≤ d → decide w d ≡ refused)
+    (some-allowed : (w : W) → Good w → (d : ℕ) × (decide w d ≡ refused → ⊥))
+    (keeps : (w : W) (d : ℕ) (w′ : W) → Good w → decide w d ≡ wants w′ → Good w′)
+    (falls : (w : W) (d : ℕ) (w′ : W) → Good w → decide w d ≡ wants w′ → left w′ < left w) where
+  pub raised-wants : (w : W) (d : ℕ) (v : W) → Good w → decide w d ≡ wants v → raised decide top left w d ≡ d ∷ firstOf decide top left v
+  unfolding raised firstOf
+  raised-wants w d v g e =
+      ap (λ (o : Outcome W Verdict). d ∷ goOn o (greedy decide top (left w))) e
+      ∙ ap (λ (l : List ℕ). d ∷ l) (greedy-enough decide top left Good bounded some-allowed keeps falls (left w) (suc (left v)) v (keeps w d v g e) (falls w d v g e) (omega arith))
 
 nothing-left : (k : ℕ) (m : List ℕ) → length m ≤ k → drop k m ≡ []
 nothing-left zero [] h = refl

@@ -4,5 +4,4 @@ pub mod Judge
 pub mod Greedy
 pub mod Next
 pub mod Walk
-pub mod Split
 pub mod Code

@@ -1,4 +1,4 @@
-// All threads, and the passes over them (loom's rt/thread.rs, rt/synchronize.rs).
+// All threads, and the pass over them (loom's rt/thread.rs, rt/synchronize.rs).
 ghost use mathlib.Core.Path.{_≡_};
 ghost use Rattle.clocks.specs.Pass.{passFrom};
 ghost use Rattle.objects_pass.specs.Passes.{passAt};

@@ -7,10 +7,10 @@ use clocks::THREADS;
 use objects::absent as no_object;
 use objects::asks;
 use objects_calls::wait_of;
-use objects_ground::ending::is_fine;
 use objects_record::absent;
 use rules::access::Access;
 use rules::answer::Answer;
+use rules::object::Ending;
 use rules::object::Entry;
 use rules::object::OBJECTS;
 use rules::table::Call;
@@ -173,15 +173,17 @@ pub fn run(table: Table, world: World, list: &[u8]) -> Ran
                                 let r = objects_mutex::effect(c, t, object, s, threads);
                                 let ending = r.ending;
                                 let answer = r.answer;
-                                acting = outcome(ending, m, work, answer, x.position);
-                                if is_fine(ending) {
-                                    threads = r.threads;
-                                    if o < OBJECTS {
-                                        e = objects[o];
-                                        let q = r.state;
-                                        e.mutex = q;
-                                        objects[o] = e;
-                                    }
+                                let Ending::Fine = ending else {
+                                    acting = outcome(ending, m, work, answer, x.position);
+                                    continue;
+                                };
+                                acting = Acting::InEffect(m, work, answer);
+                                threads = r.threads;
+                                if o < OBJECTS {
+                                    e = objects[o];
+                                    let q = r.state;
+                                    e.mutex = q;
+                                    objects[o] = e;
                                 }
                             }
                             Call::RwLock(c) => {
@@ -192,15 +194,17 @@ pub fn run(table: Table, world: World, list: &[u8]) -> Ran
                                 let r = objects_rwlock::effect(c, t, object, s, threads);
                                 let ending = r.ending;
                                 let answer = r.answer;
-                                acting = outcome(ending, m, work, answer, x.position);
-                                if is_fine(ending) {
-                                    threads = r.threads;
-                                    if o < OBJECTS {
-                                        e = objects[o];
-                                        let q = r.state;
-                                        e.rwlock = q;
-                                        objects[o] = e;
-                                    }
+                                let Ending::Fine = ending else {
+                                    acting = outcome(ending, m, work, answer, x.position);
+                                    continue;
+                                };
+                                acting = Acting::InEffect(m, work, answer);
+                                threads = r.threads;
+                                if o < OBJECTS {
+                                    e = objects[o];
+                                    let q = r.state;
+                                    e.rwlock = q;
+                                    objects[o] = e;
                                 }
                             }
                             Call::Condvar(c) => {
@@ -211,15 +215,17 @@ pub fn run(table: Table, world: World, list: &[u8]) -> Ran
                                 let r = objects_condvar::effect(c, t, s, threads);
                                 let ending = r.ending;
                                 let answer = r.answer;
-                                acting = outcome(ending, m, work, answer, x.position);
-                                if is_fine(ending) {
-                                    threads = r.threads;
-                                    if o < OBJECTS {
-                                        e = objects[o];
-                                        let q = r.state;
-                                        e.condvar = q;
-                                        objects[o] = e;
-                                    }
+                                let Ending::Fine = ending else {
+                                    acting = outcome(ending, m, work, answer, x.position);
+                                    continue;
+                                };
+                                acting = Acting::InEffect(m, work, answer);
+                                threads = r.threads;
+                                if o < OBJECTS {
+                                    e = objects[o];
+                                    let q = r.state;
+                                    e.condvar = q;
+                                    objects[o] = e;
                                 }
                             }
                             Call::Notify(c) => {
@@ -230,15 +236,17 @@ pub fn run(table: Table, world: World, list: &[u8]) -> Ran
                                 let r = objects_notify::effect(c, t, object, s, threads);
                                 let ending = r.ending;
                                 let answer = r.answer;
-                                acting = outcome(ending, m, work, answer, x.position);
-                                if is_fine(ending) {
-                                    threads = r.threads;
-                                    if o < OBJECTS {
-                                        e = objects[o];
-                                        let q = r.state;
-                                        e.notify = q;
-                                        objects[o] = e;
-                                    }
+                                let Ending::Fine = ending else {
+                                    acting = outcome(ending, m, work, answer, x.position);
+                                    continue;
+                                };
+                                acting = Acting::InEffect(m, work, answer);
+                                threads = r.threads;
+                                if o < OBJECTS {
+                                    e = objects[o];
+                                    let q = r.state;
+                                    e.notify = q;
+                                    objects[o] = e;
                                 }
                             }
                             Call::Channel(c) => {
@@ -249,15 +257,17 @@ pub fn run(table: Table, world: World, list: &[u8]) -> Ran
                                 let r = objects_mpsc::effect(c, t, object, s, threads);
                                 let ending = r.ending;
                                 let answer = r.answer;
-                                acting = outcome(ending, m, work, answer, x.position);
-                                if is_fine(ending) {
-                                    threads = r.threads;
-                                    if o < OBJECTS {
-                                        e = objects[o];
-                                        let q = r.state;
-                                        e.channel = q;
-                                        objects[o] = e;
-                                    }
+                                let Ending::Fine = ending else {
+                                    acting = outcome(ending, m, work, answer, x.position);
+                                    continue;
+                                };
+                                acting = Acting::InEffect(m, work, answer);
+                                threads = r.threads;
+                                if o < OBJECTS {
+                                    e = objects[o];
+                                    let q = r.state;
+                                    e.channel = q;
+                                    objects[o] = e;
                                 }
                             }
                             Call::Arc(c) => {
@@ -268,15 +278,17 @@ pub fn run(table: Table, world: World, list: &[u8]) -> Ran
                                 let r = objects_arc::effect(c, t, s, threads);
                                 let ending = r.ending;
                                 let answer = r.answer;
-                                acting = outcome(ending, m, work, answer, x.position);
-                                if is_fine(ending) {
-                                    threads = r.threads;
-                                    if o < OBJECTS {
-                                        e = objects[o];
-                                        let q = r.state;
-                                        e.arc = q;
-                                        objects[o] = e;
-                                    }
+                                let Ending::Fine = ending else {
+                                    acting = outcome(ending, m, work, answer, x.position);
+                                    continue;
+                                };
+                                acting = Acting::InEffect(m, work, answer);
+                                threads = r.threads;
+                                if o < OBJECTS {
+                                    e = objects[o];
+                                    let q = r.state;
+                                    e.arc = q;
+                                    objects[o] = e;
                                 }
                             }
                             Call::Cell(c) => {
@@ -287,15 +299,17 @@ pub fn run(table: Table, world: World, list: &[u8]) -> Ran
                                 let r = objects_cell::effect(c, t, s, threads);
                                 let ending = r.ending;
                                 let answer = r.answer;
-                                acting = outcome(ending, m, work, answer, x.position);
-                                if is_fine(ending) {
-                                    threads = r.threads;
-                                    if o < OBJECTS {
-                                        e = objects[o];
-                                        let q = r.state;
-                                        e.cell = q;
-                                        objects[o] = e;
-                                    }
+                                let Ending::Fine = ending else {
+                                    acting = outcome(ending, m, work, answer, x.position);
+                                    continue;
+                                };
+                                acting = Acting::InEffect(m, work, answer);
+                                threads = r.threads;
+                                if o < OBJECTS {
+                                    e = objects[o];
+                                    let q = r.state;
+                                    e.cell = q;
+                                    objects[o] = e;
                                 }
                             }
                         }

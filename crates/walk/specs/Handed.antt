@@ -35,7 +35,6 @@ use Rattle.theorems.specs.Falling.{Good}
 use Rattle.theorems.specs.Length.{start-left, left-some}
 use Rattle.theorems.specs.Accepted.{start-good}
 use Rattle.walk.specs.Says.{Completable, Continues, Completes, pivotOf, Started, PassSays, Raisable, raisedTo}
-use Rattle.walk.specs.Completing.{raised-least}
 
 module _ (from buffer : List ℕ) (n : ℕ) (h : n ≤ length from) where
   long : length (take n from) ≡ n
@@ -76,7 +75,7 @@ module _ (table : Table) (b : Started table) (w : World) (e : w ≡ start table)
   }
 
   pub first-made : (r : Completion) → Completes from r → take (r .at) (r .list) ≡ next.firstOf (step table) decisions (left table) (start table)
-  first-made r x = x .made ∙ raised-least table w ∙ ap (next.firstOf (step table) decisions (left table)) e
+  first-made r x = x .made ∙ ap (next.firstOf (step table) decisions (left table)) e
 
 -- a list is raised: copied up to the mark, then the mark's decision, then the completion
 module _ (table : Table) (l : List ℕ) (k : Mark) (h : Raisable table l k) (s : List ℕ) (long : length s ≡ maxList) (b : List ℕ) (copied : b ≡ take (k .at) l ++ drop (k .at) s) where

@@ -8,7 +8,7 @@ use lib.ListN.{length, take, drop, set}
 use Rattle.lists.specs.Rules.{Outcome, refused, done, wants}
 use Rattle.lists.specs.Judge.{judge}
 use Rattle.lists.specs.Greedy.{smallest}
-use Rattle.lists.specs.Next.{Pivot, nowhere, at, raised, better, pass}
+use Rattle.lists.specs.Next.{Pivot, nowhere, at, firstOf, raised, better, pass}
 use Rattle.rules.specs.declared.table.Table.{Table}
 use Rattle.rules.specs.declared.world.World.{World}
 use Rattle.rules.specs.Limits.{maxList}
@@ -70,13 +70,18 @@ pub record Completable (c : Completion) : Type 0 where
   pub few : c .at + left (c .table) (c .world) ≤ maxList
   pub long : length (c .list) ≡ maxList
 
--- the list of r is that of c, the decision d, and the smallest completion
-pub record Continues (c : Completion) (d : ℕ) (r : Completion) : Type 0 where
-  pub made : take (r .at) (r .list) ≡ take (c .at) (c .list) ++ raised (step (c .table)) decisions (left (c .table)) (c .world) d
+-- the list of r is that of c, and l behind it
+pub record Adds (c : Completion) (l : List ℕ) (r : Completion) : Type 0 where
+  pub made : take (r .at) (r .list) ≡ take (c .at) (c .list) ++ l
   pub inside : r .at ≤ length (r .list)
 
+-- the decision d, and then the smallest completion
+abbrev pub Continues : Completion → ℕ → Completion → Type 0
+Continues c d r = Adds c (raised (step (c .table)) decisions (left (c .table)) (c .world) d) r
+
+-- the smallest completion
 abbrev pub Completes : Completion → Completion → Type 0
-Completes c r = Continues c (least c) r
+Completes c r = Adds c (firstOf (step (c .table)) decisions (left (c .table)) (c .world)) r
 
 -- the pivot that a mark is
 abbrev pub pivotOf : Mark → Pivot World

@@ -1,7 +1,7 @@
 -- `run` meets its contract: what is left of the list's judgement stays the same from step to step.
 use mathlib.Core.Path.{_≡_, refl, sym, _∙_, ap, subst}
 use mathlib.Core.Bool.{Bool, true, false}
-use mathlib.Core.List.{List}
+use mathlib.Core.List.{List, [], _∷_}
 use mathlib.Core.Logic.{inl, inr}
 use Prim.Native.Nat.{ℕ, _+_, _-_, _*_, _≤_, _<_}
 use native.Mathlib.Omega.{arith}
@@ -10,6 +10,8 @@ use lib.ListN.{length, getD, set, length-set, length-map, List·getD-eq-default}
 use lib.Seq.{set-getD, set-out}
 use borrow.Author.Tests.{not-true, not-false}
 use mir.Syntax.{w8}
+use denote.Enum.Declared.{tagOf}
+use types.Run.{OneOf}
 use borrow.Author.Needs.{needs, elem-fits-field}
 use Rattle.clocks.specs.Clock.{maxThreads}
 use Rattle.clocks.specs.Lists.{getD-within}
@@ -17,7 +19,9 @@ use Rattle.clocks.specs.declared.thread.ThreadId.{ThreadId}
 use Rattle.rules.specs.declared.access.Access.{Access}
 use Rattle.rules.specs.declared.notify.State.{State as NotifyState}
 use Rattle.rules.specs.declared.object.Entry.{Entry}
+use Rattle.rules.specs.declared.object.Ending.{Ending}
 use Rattle.rules.specs.declared.object.Ending.the-variants as ending
+use Rattle.rules.proofs.object.Ending as EndingTag
 use Rattle.rules.specs.declared.thread.Answered.{Answered}
 use Rattle.rules.specs.declared.thread.Answered.the-variants.{Kept}
 use Rattle.rules.specs.declared.thread.Thread.{Thread}
@@ -276,226 +280,166 @@ module _ (c : tie.After-wakes-spuriously Inv-loop μ-loop) where
         subst (λ (b : Acting). Running (table (here loud)) (list (here loud)) (given (here loud)) (ts (here loud)) (es (here loud)) (here loud .loop .turn) (here loud .loop .asked) b (here loud .loop .at)) (sym is-next)
         (done-fails (runs (here loud)) (m loud) (moves loud) (placed (here loud)) (about loud) is-loud (ap (λ (y : Effect). isFine (y .ending)) is-r ∙ h))
 
+  module _ (r : Effect) (is : done' ≡ r) (fine : r .ending ≡ ending.Fine) where
+    goes-on : InEffect (m loud) work' (r .answer) ≡ outcome (r .ending) (m loud) work' (r .answer) (c .before .before .before .before .before .before .before .before .before .before .if4 .x .position)
+    unfolding outcome verdictOr
+    goes-on = sym (ap (λ (y : Ending). outcome y (m loud) work' (r .answer) (c .before .before .before .before .before .before .before .before .before .before .if4 .x .position)) fine)
+
+    fine-less : weight (InEffect (m loud) work' (r .answer)) < weight (here loud .loop .acting)
+    fine-less = arm-less r is _ goes-on
+
+    fine-kept : (fs : List Entry) → fs ≡ putEntry (es (here loud)) (about loud .object) (r .entry)
+        → Running (table (here loud)) (list (here loud)) (given (here loud)) (r .threads) fs (here loud .loop .turn) (here loud .loop .asked) (InEffect (m loud) work' (r .answer)) (here loud .loop .at)
+    fine-kept = arm-kept r is _ goes-on (ap isFine fine)
+
+-- an ending of the other arm is a failing one
+fails : (x : Ending) → OneOf (1 ∷ 2 ∷ 3 ∷ []) (tagOf EndingTag.the-type x) → isFine x ≡ false
+fails ending.Fine (inl e) = absurd (omega (arith, e))
+fails ending.Fine (inr (inl e)) = absurd (omega (arith, e))
+fails ending.Fine (inr (inr e)) = absurd (omega (arith, e))
+fails ending.Misuse h = refl
+fails ending.NoRoom h = refl
+fails (ending.Race t) h = refl
+
 -- an operation on a mutex
-module _ (c : tie.After-outcome Inv-loop μ-loop) where
+module _ (c : tie.After-effect Inv-loop μ-loop) where
   abbrev mutex-at : tie.After-wakes-spuriously Inv-loop μ-loop
-  mutex-at = c .before .before .before .before .before .before .before .before
+  mutex-at = c .before .before .before .before .before .before .before
 
   abbrev mutex-done : Effect
-  mutex-done = inMutex (c .before .effect .result) (it mutex-at)
+  mutex-done = inMutex (c .effect .result) (it mutex-at)
 
   mutex-is : done' mutex-at ≡ mutex-done
   mutex-is =
-      let same : c .before .before .before .if11 .e ≡ it mutex-at =
-      elim (c .before .before .before .if11 .came) [
+      let same : c .before .before .if11 .e ≡ it mutex-at =
+      elim (c .before .before .if11 .came) [
         | inl w ↦ w .2 ∙ there mutex-at _ (w .0 .taken)
         | inr w ↦ w .1 ∙ mutex-at .before .absent4 .ensures ∙ nowhere mutex-at (w .0 .left)
       ] in
-      takes-mutex (m (loud mutex-at)) (t (loud mutex-at)) (work' mutex-at .object) (ts (here (loud mutex-at))) (sym (mutex-at .wakes-spuriously .ensures) ∙ c .before .before .before .before .before .before .before .if9 .left) same (c .before .before .before .before .before .work-call .given .1) (c .before .effect .ensures)
+      takes-mutex (m (loud mutex-at)) (t (loud mutex-at)) (work' mutex-at .object) (ts (here (loud mutex-at))) (sym (mutex-at .wakes-spuriously .ensures) ∙ c .before .before .before .before .before .before .if9 .left) same (c .before .before .before .before .work-call .given .1) (c .effect .ensures)
 
-  mutex-full : length (c .before .effect .result .threads) ≡ maxThreads
-  mutex-full = sym (length-map (c .before .effect .result .threads) _) ∙ c .before .effect .ok .1 .1 .1 .1 .1 .0 .1 .0 .1
-
-  mutex-less : weight (c .outcome .result) < weight (here (loud mutex-at) .loop .acting)
-  mutex-less = arm-less mutex-at mutex-done mutex-is (c .outcome .result) (c .outcome .ensures)
-
-  mutex-kept : isFine (c .before .effect .result .ending) ≡ true → (fs : List Entry) → fs ≡ putEntry (es (here (loud mutex-at))) (about (loud mutex-at) .object) (mutex-done .entry)
-      → Running (table (here (loud mutex-at))) (list (here (loud mutex-at))) (given (here (loud mutex-at))) (c .before .effect .result .threads) fs (here (loud mutex-at) .loop .turn) (here (loud mutex-at) .loop .asked) (c .outcome .result) (here (loud mutex-at) .loop .at)
-  mutex-kept = arm-kept mutex-at mutex-done mutex-is (c .outcome .result) (c .outcome .ensures)
-
-  mutex-left : isFine (c .before .effect .result .ending) ≡ false
-      → Running (table (here (loud mutex-at))) (list (here (loud mutex-at))) (given (here (loud mutex-at))) (ts (here (loud mutex-at))) (es (here (loud mutex-at))) (here (loud mutex-at) .loop .turn) (here (loud mutex-at) .loop .asked) (c .outcome .result) (here (loud mutex-at) .loop .at)
-  mutex-left = arm-left mutex-at mutex-done mutex-is (c .outcome .result) (c .outcome .ensures)
+  mutex-full : length (c .effect .result .threads) ≡ maxThreads
+  mutex-full = sym (length-map (c .effect .result .threads) _) ∙ c .effect .ok .1 .1 .1 .1 .1 .0 .1 .0 .1
 
 -- an operation on a rwlock
-module _ (c : tie.After-outcome2 Inv-loop μ-loop) where
+module _ (c : tie.After-effect2 Inv-loop μ-loop) where
   abbrev rwlock-at : tie.After-wakes-spuriously Inv-loop μ-loop
-  rwlock-at = c .before .before .before .before .before .before .before .before
+  rwlock-at = c .before .before .before .before .before .before .before
 
   abbrev rwlock-done : Effect
-  rwlock-done = inRwLock (c .before .effect2 .result) (it rwlock-at)
+  rwlock-done = inRwLock (c .effect2 .result) (it rwlock-at)
 
   rwlock-is : done' rwlock-at ≡ rwlock-done
   rwlock-is =
-      let same : c .before .before .before .if14 .e ≡ it rwlock-at =
-      elim (c .before .before .before .if14 .came) [
+      let same : c .before .before .if13 .e ≡ it rwlock-at =
+      elim (c .before .before .if13 .came) [
         | inl w ↦ w .2 ∙ there rwlock-at _ (w .0 .taken)
         | inr w ↦ w .1 ∙ rwlock-at .before .absent4 .ensures ∙ nowhere rwlock-at (w .0 .left)
       ] in
-      takes-rwlock (m (loud rwlock-at)) (t (loud rwlock-at)) (work' rwlock-at .object) (ts (here (loud rwlock-at))) (sym (rwlock-at .wakes-spuriously .ensures) ∙ c .before .before .before .before .before .before .before .if9 .left) same (c .before .before .before .before .before .work-call2 .given .1) (c .before .effect2 .ensures)
+      takes-rwlock (m (loud rwlock-at)) (t (loud rwlock-at)) (work' rwlock-at .object) (ts (here (loud rwlock-at))) (sym (rwlock-at .wakes-spuriously .ensures) ∙ c .before .before .before .before .before .before .if9 .left) same (c .before .before .before .before .work-call2 .given .1) (c .effect2 .ensures)
 
-  rwlock-full : length (c .before .effect2 .result .threads) ≡ maxThreads
-  rwlock-full = sym (length-map (c .before .effect2 .result .threads) _) ∙ c .before .effect2 .ok .1 .1 .1 .1 .1 .0 .1 .0 .1
-
-  rwlock-less : weight (c .outcome2 .result) < weight (here (loud rwlock-at) .loop .acting)
-  rwlock-less = arm-less rwlock-at rwlock-done rwlock-is (c .outcome2 .result) (c .outcome2 .ensures)
-
-  rwlock-kept : isFine (c .before .effect2 .result .ending) ≡ true → (fs : List Entry) → fs ≡ putEntry (es (here (loud rwlock-at))) (about (loud rwlock-at) .object) (rwlock-done .entry)
-      → Running (table (here (loud rwlock-at))) (list (here (loud rwlock-at))) (given (here (loud rwlock-at))) (c .before .effect2 .result .threads) fs (here (loud rwlock-at) .loop .turn) (here (loud rwlock-at) .loop .asked) (c .outcome2 .result) (here (loud rwlock-at) .loop .at)
-  rwlock-kept = arm-kept rwlock-at rwlock-done rwlock-is (c .outcome2 .result) (c .outcome2 .ensures)
-
-  rwlock-left : isFine (c .before .effect2 .result .ending) ≡ false
-      → Running (table (here (loud rwlock-at))) (list (here (loud rwlock-at))) (given (here (loud rwlock-at))) (ts (here (loud rwlock-at))) (es (here (loud rwlock-at))) (here (loud rwlock-at) .loop .turn) (here (loud rwlock-at) .loop .asked) (c .outcome2 .result) (here (loud rwlock-at) .loop .at)
-  rwlock-left = arm-left rwlock-at rwlock-done rwlock-is (c .outcome2 .result) (c .outcome2 .ensures)
+  rwlock-full : length (c .effect2 .result .threads) ≡ maxThreads
+  rwlock-full = sym (length-map (c .effect2 .result .threads) _) ∙ c .effect2 .ok .1 .1 .1 .1 .1 .0 .1 .0 .1
 
 -- an operation on a condvar
-module _ (c : tie.After-outcome3 Inv-loop μ-loop) where
+module _ (c : tie.After-effect3 Inv-loop μ-loop) where
   abbrev condvar-at : tie.After-wakes-spuriously Inv-loop μ-loop
-  condvar-at = c .before .before .before .before .before .before .before .before
+  condvar-at = c .before .before .before .before .before .before .before
 
   abbrev condvar-done : Effect
-  condvar-done = inCondvar (c .before .effect3 .result) (it condvar-at)
+  condvar-done = inCondvar (c .effect3 .result) (it condvar-at)
 
   condvar-is : done' condvar-at ≡ condvar-done
   condvar-is =
-      let same : c .before .before .before .if17 .e ≡ it condvar-at =
-      elim (c .before .before .before .if17 .came) [
+      let same : c .before .before .if15 .e ≡ it condvar-at =
+      elim (c .before .before .if15 .came) [
         | inl w ↦ w .2 ∙ there condvar-at _ (w .0 .taken)
         | inr w ↦ w .1 ∙ condvar-at .before .absent4 .ensures ∙ nowhere condvar-at (w .0 .left)
       ] in
-      takes-condvar (m (loud condvar-at)) (t (loud condvar-at)) (work' condvar-at .object) (ts (here (loud condvar-at))) (sym (condvar-at .wakes-spuriously .ensures) ∙ c .before .before .before .before .before .before .before .if9 .left) same (c .before .before .before .before .before .work-call3 .given .1) (c .before .effect3 .ensures)
+      takes-condvar (m (loud condvar-at)) (t (loud condvar-at)) (work' condvar-at .object) (ts (here (loud condvar-at))) (sym (condvar-at .wakes-spuriously .ensures) ∙ c .before .before .before .before .before .before .if9 .left) same (c .before .before .before .before .work-call3 .given .1) (c .effect3 .ensures)
 
-  condvar-full : length (c .before .effect3 .result .threads) ≡ maxThreads
-  condvar-full = sym (length-map (c .before .effect3 .result .threads) _) ∙ c .before .effect3 .ok .1 .1 .1 .1 .1 .0 .1 .0 .1
-
-  condvar-less : weight (c .outcome3 .result) < weight (here (loud condvar-at) .loop .acting)
-  condvar-less = arm-less condvar-at condvar-done condvar-is (c .outcome3 .result) (c .outcome3 .ensures)
-
-  condvar-kept : isFine (c .before .effect3 .result .ending) ≡ true → (fs : List Entry) → fs ≡ putEntry (es (here (loud condvar-at))) (about (loud condvar-at) .object) (condvar-done .entry)
-      → Running (table (here (loud condvar-at))) (list (here (loud condvar-at))) (given (here (loud condvar-at))) (c .before .effect3 .result .threads) fs (here (loud condvar-at) .loop .turn) (here (loud condvar-at) .loop .asked) (c .outcome3 .result) (here (loud condvar-at) .loop .at)
-  condvar-kept = arm-kept condvar-at condvar-done condvar-is (c .outcome3 .result) (c .outcome3 .ensures)
-
-  condvar-left : isFine (c .before .effect3 .result .ending) ≡ false
-      → Running (table (here (loud condvar-at))) (list (here (loud condvar-at))) (given (here (loud condvar-at))) (ts (here (loud condvar-at))) (es (here (loud condvar-at))) (here (loud condvar-at) .loop .turn) (here (loud condvar-at) .loop .asked) (c .outcome3 .result) (here (loud condvar-at) .loop .at)
-  condvar-left = arm-left condvar-at condvar-done condvar-is (c .outcome3 .result) (c .outcome3 .ensures)
+  condvar-full : length (c .effect3 .result .threads) ≡ maxThreads
+  condvar-full = sym (length-map (c .effect3 .result .threads) _) ∙ c .effect3 .ok .1 .1 .1 .1 .1 .0 .1 .0 .1
 
 -- an operation on a notify
-module _ (c : tie.After-outcome4 Inv-loop μ-loop) where
+module _ (c : tie.After-effect4 Inv-loop μ-loop) where
   abbrev notify-at : tie.After-wakes-spuriously Inv-loop μ-loop
-  notify-at = c .before .before .before .before .before .before .before .before
+  notify-at = c .before .before .before .before .before .before .before
 
   abbrev notify-done : Effect
-  notify-done = inNotify (c .before .effect4 .result) (it notify-at)
+  notify-done = inNotify (c .effect4 .result) (it notify-at)
 
   notify-is : done' notify-at ≡ notify-done
   notify-is =
-      let same : c .before .before .before .if20 .e ≡ it notify-at =
-      elim (c .before .before .before .if20 .came) [
+      let same : c .before .before .if17 .e ≡ it notify-at =
+      elim (c .before .before .if17 .came) [
         | inl w ↦ w .2 ∙ there notify-at _ (w .0 .taken)
         | inr w ↦ w .1 ∙ notify-at .before .absent4 .ensures ∙ nowhere notify-at (w .0 .left)
       ] in
-      takes-notify (m (loud notify-at)) (t (loud notify-at)) (work' notify-at .object) (ts (here (loud notify-at))) (sym (notify-at .wakes-spuriously .ensures) ∙ c .before .before .before .before .before .before .before .if9 .left) same (c .before .before .before .before .before .work-call4 .given .1) (c .before .effect4 .ensures)
+      takes-notify (m (loud notify-at)) (t (loud notify-at)) (work' notify-at .object) (ts (here (loud notify-at))) (sym (notify-at .wakes-spuriously .ensures) ∙ c .before .before .before .before .before .before .if9 .left) same (c .before .before .before .before .work-call4 .given .1) (c .effect4 .ensures)
 
-  notify-full : length (c .before .effect4 .result .threads) ≡ maxThreads
-  notify-full = sym (length-map (c .before .effect4 .result .threads) _) ∙ c .before .effect4 .ok .1 .1 .1 .1 .1 .0 .1 .0 .1
-
-  notify-less : weight (c .outcome4 .result) < weight (here (loud notify-at) .loop .acting)
-  notify-less = arm-less notify-at notify-done notify-is (c .outcome4 .result) (c .outcome4 .ensures)
-
-  notify-kept : isFine (c .before .effect4 .result .ending) ≡ true → (fs : List Entry) → fs ≡ putEntry (es (here (loud notify-at))) (about (loud notify-at) .object) (notify-done .entry)
-      → Running (table (here (loud notify-at))) (list (here (loud notify-at))) (given (here (loud notify-at))) (c .before .effect4 .result .threads) fs (here (loud notify-at) .loop .turn) (here (loud notify-at) .loop .asked) (c .outcome4 .result) (here (loud notify-at) .loop .at)
-  notify-kept = arm-kept notify-at notify-done notify-is (c .outcome4 .result) (c .outcome4 .ensures)
-
-  notify-left : isFine (c .before .effect4 .result .ending) ≡ false
-      → Running (table (here (loud notify-at))) (list (here (loud notify-at))) (given (here (loud notify-at))) (ts (here (loud notify-at))) (es (here (loud notify-at))) (here (loud notify-at) .loop .turn) (here (loud notify-at) .loop .asked) (c .outcome4 .result) (here (loud notify-at) .loop .at)
-  notify-left = arm-left notify-at notify-done notify-is (c .outcome4 .result) (c .outcome4 .ensures)
+  notify-full : length (c .effect4 .result .threads) ≡ maxThreads
+  notify-full = sym (length-map (c .effect4 .result .threads) _) ∙ c .effect4 .ok .1 .1 .1 .1 .1 .0 .1 .0 .1
 
 -- an operation on a channel
-module _ (c : tie.After-outcome5 Inv-loop μ-loop) where
+module _ (c : tie.After-effect5 Inv-loop μ-loop) where
   abbrev channel-at : tie.After-wakes-spuriously Inv-loop μ-loop
-  channel-at = c .before .before .before .before .before .before .before .before
+  channel-at = c .before .before .before .before .before .before .before
 
   abbrev channel-done : Effect
-  channel-done = inChannel (c .before .effect5 .result) (it channel-at)
+  channel-done = inChannel (c .effect5 .result) (it channel-at)
 
   channel-is : done' channel-at ≡ channel-done
   channel-is =
-      let same : c .before .before .before .if23 .e ≡ it channel-at =
-      elim (c .before .before .before .if23 .came) [
+      let same : c .before .before .if19 .e ≡ it channel-at =
+      elim (c .before .before .if19 .came) [
         | inl w ↦ w .2 ∙ there channel-at _ (w .0 .taken)
         | inr w ↦ w .1 ∙ channel-at .before .absent4 .ensures ∙ nowhere channel-at (w .0 .left)
       ] in
-      takes-channel (m (loud channel-at)) (t (loud channel-at)) (work' channel-at .object) (ts (here (loud channel-at))) (sym (channel-at .wakes-spuriously .ensures) ∙ c .before .before .before .before .before .before .before .if9 .left) same (c .before .before .before .before .before .work-call5 .given .1) (c .before .effect5 .ensures)
+      takes-channel (m (loud channel-at)) (t (loud channel-at)) (work' channel-at .object) (ts (here (loud channel-at))) (sym (channel-at .wakes-spuriously .ensures) ∙ c .before .before .before .before .before .before .if9 .left) same (c .before .before .before .before .work-call5 .given .1) (c .effect5 .ensures)
 
-  channel-full : length (c .before .effect5 .result .threads) ≡ maxThreads
-  channel-full = sym (length-map (c .before .effect5 .result .threads) _) ∙ c .before .effect5 .ok .1 .1 .1 .1 .1 .0 .1 .0 .1
-
-  channel-less : weight (c .outcome5 .result) < weight (here (loud channel-at) .loop .acting)
-  channel-less = arm-less channel-at channel-done channel-is (c .outcome5 .result) (c .outcome5 .ensures)
-
-  channel-kept : isFine (c .before .effect5 .result .ending) ≡ true → (fs : List Entry) → fs ≡ putEntry (es (here (loud channel-at))) (about (loud channel-at) .object) (channel-done .entry)
-      → Running (table (here (loud channel-at))) (list (here (loud channel-at))) (given (here (loud channel-at))) (c .before .effect5 .result .threads) fs (here (loud channel-at) .loop .turn) (here (loud channel-at) .loop .asked) (c .outcome5 .result) (here (loud channel-at) .loop .at)
-  channel-kept = arm-kept channel-at channel-done channel-is (c .outcome5 .result) (c .outcome5 .ensures)
-
-  channel-left : isFine (c .before .effect5 .result .ending) ≡ false
-      → Running (table (here (loud channel-at))) (list (here (loud channel-at))) (given (here (loud channel-at))) (ts (here (loud channel-at))) (es (here (loud channel-at))) (here (loud channel-at) .loop .turn) (here (loud channel-at) .loop .asked) (c .outcome5 .result) (here (loud channel-at) .loop .at)
-  channel-left = arm-left channel-at channel-done channel-is (c .outcome5 .result) (c .outcome5 .ensures)
+  channel-full : length (c .effect5 .result .threads) ≡ maxThreads
+  channel-full = sym (length-map (c .effect5 .result .threads) _) ∙ c .effect5 .ok .1 .1 .1 .1 .1 .0 .1 .0 .1
 
 -- an operation on an arc
-module _ (c : tie.After-outcome6 Inv-loop μ-loop) where
+module _ (c : tie.After-effect6 Inv-loop μ-loop) where
   abbrev arc-at : tie.After-wakes-spuriously Inv-loop μ-loop
-  arc-at = c .before .before .before .before .before .before .before .before
+  arc-at = c .before .before .before .before .before .before .before
 
   abbrev arc-done : Effect
-  arc-done = inArc (c .before .effect6 .result) (it arc-at)
+  arc-done = inArc (c .effect6 .result) (it arc-at)
 
   arc-is : done' arc-at ≡ arc-done
   arc-is =
-      let same : c .before .before .before .if26 .e ≡ it arc-at =
-      elim (c .before .before .before .if26 .came) [
+      let same : c .before .before .if21 .e ≡ it arc-at =
+      elim (c .before .before .if21 .came) [
         | inl w ↦ w .2 ∙ there arc-at _ (w .0 .taken)
         | inr w ↦ w .1 ∙ arc-at .before .absent4 .ensures ∙ nowhere arc-at (w .0 .left)
       ] in
-      takes-arc (m (loud arc-at)) (t (loud arc-at)) (work' arc-at .object) (ts (here (loud arc-at))) (sym (arc-at .wakes-spuriously .ensures) ∙ c .before .before .before .before .before .before .before .if9 .left) same (c .before .before .before .before .before .work-call6 .given .1) (c .before .effect6 .ensures)
+      takes-arc (m (loud arc-at)) (t (loud arc-at)) (work' arc-at .object) (ts (here (loud arc-at))) (sym (arc-at .wakes-spuriously .ensures) ∙ c .before .before .before .before .before .before .if9 .left) same (c .before .before .before .before .work-call6 .given .1) (c .effect6 .ensures)
 
-  arc-full : length (c .before .effect6 .result .threads) ≡ maxThreads
-  arc-full = sym (length-map (c .before .effect6 .result .threads) _) ∙ c .before .effect6 .ok .1 .1 .1 .1 .1 .0 .1 .0 .1
-
-  arc-less : weight (c .outcome6 .result) < weight (here (loud arc-at) .loop .acting)
-  arc-less = arm-less arc-at arc-done arc-is (c .outcome6 .result) (c .outcome6 .ensures)
-
-  arc-kept : isFine (c .before .effect6 .result .ending) ≡ true → (fs : List Entry) → fs ≡ putEntry (es (here (loud arc-at))) (about (loud arc-at) .object) (arc-done .entry)
-      → Running (table (here (loud arc-at))) (list (here (loud arc-at))) (given (here (loud arc-at))) (c .before .effect6 .result .threads) fs (here (loud arc-at) .loop .turn) (here (loud arc-at) .loop .asked) (c .outcome6 .result) (here (loud arc-at) .loop .at)
-  arc-kept = arm-kept arc-at arc-done arc-is (c .outcome6 .result) (c .outcome6 .ensures)
-
-  arc-left : isFine (c .before .effect6 .result .ending) ≡ false
-      → Running (table (here (loud arc-at))) (list (here (loud arc-at))) (given (here (loud arc-at))) (ts (here (loud arc-at))) (es (here (loud arc-at))) (here (loud arc-at) .loop .turn) (here (loud arc-at) .loop .asked) (c .outcome6 .result) (here (loud arc-at) .loop .at)
-  arc-left = arm-left arc-at arc-done arc-is (c .outcome6 .result) (c .outcome6 .ensures)
+  arc-full : length (c .effect6 .result .threads) ≡ maxThreads
+  arc-full = sym (length-map (c .effect6 .result .threads) _) ∙ c .effect6 .ok .1 .1 .1 .1 .1 .0 .1 .0 .1
 
 -- an operation on a cell
-module _ (c : tie.After-outcome7 Inv-loop μ-loop) where
+module _ (c : tie.After-effect7 Inv-loop μ-loop) where
   abbrev cell-at : tie.After-wakes-spuriously Inv-loop μ-loop
-  cell-at = c .before .before .before .before .before .before .before .before
+  cell-at = c .before .before .before .before .before .before .before
 
   abbrev cell-done : Effect
-  cell-done = inCell (c .before .effect7 .result) (it cell-at)
+  cell-done = inCell (c .effect7 .result) (it cell-at)
 
   cell-is : done' cell-at ≡ cell-done
   cell-is =
-      let same : c .before .before .before .if29 .e ≡ it cell-at =
-      elim (c .before .before .before .if29 .came) [
+      let same : c .before .before .if23 .e ≡ it cell-at =
+      elim (c .before .before .if23 .came) [
         | inl w ↦ w .2 ∙ there cell-at _ (w .0 .taken)
         | inr w ↦ w .1 ∙ cell-at .before .absent4 .ensures ∙ nowhere cell-at (w .0 .left)
       ] in
-      takes-cell (m (loud cell-at)) (t (loud cell-at)) (work' cell-at .object) (ts (here (loud cell-at))) (sym (cell-at .wakes-spuriously .ensures) ∙ c .before .before .before .before .before .before .before .if9 .left) same (c .before .before .before .before .before .work-call7 .given .1) (c .before .effect7 .ensures)
+      takes-cell (m (loud cell-at)) (t (loud cell-at)) (work' cell-at .object) (ts (here (loud cell-at))) (sym (cell-at .wakes-spuriously .ensures) ∙ c .before .before .before .before .before .before .if9 .left) same (c .before .before .before .before .work-call7 .given .1) (c .effect7 .ensures)
 
-  cell-full : length (c .before .effect7 .result .threads) ≡ maxThreads
-  cell-full = sym (length-map (c .before .effect7 .result .threads) _) ∙ c .before .effect7 .ok .1 .1 .1 .1 .1 .0 .1 .0 .1
-
-  cell-less : weight (c .outcome7 .result) < weight (here (loud cell-at) .loop .acting)
-  cell-less = arm-less cell-at cell-done cell-is (c .outcome7 .result) (c .outcome7 .ensures)
-
-  cell-kept : isFine (c .before .effect7 .result .ending) ≡ true → (fs : List Entry) → fs ≡ putEntry (es (here (loud cell-at))) (about (loud cell-at) .object) (cell-done .entry)
-      → Running (table (here (loud cell-at))) (list (here (loud cell-at))) (given (here (loud cell-at))) (c .before .effect7 .result .threads) fs (here (loud cell-at) .loop .turn) (here (loud cell-at) .loop .asked) (c .outcome7 .result) (here (loud cell-at) .loop .at)
-  cell-kept = arm-kept cell-at cell-done cell-is (c .outcome7 .result) (c .outcome7 .ensures)
-
-  cell-left : isFine (c .before .effect7 .result .ending) ≡ false
-      → Running (table (here (loud cell-at))) (list (here (loud cell-at))) (given (here (loud cell-at))) (ts (here (loud cell-at))) (es (here (loud cell-at))) (here (loud cell-at) .loop .turn) (here (loud cell-at) .loop .asked) (c .outcome7 .result) (here (loud cell-at) .loop .at)
-  cell-left = arm-left cell-at cell-done cell-is (c .outcome7 .result) (c .outcome7 .ensures)
-
-spurious-is : (m : Move) (op : Op) (position : ℕ) → InEffect m op Kept ≡ outcome ending.Fine m op Kept position
-unfolding outcome verdictOr
-spurious-is m op position = refl
+  cell-full : length (c .effect7 .result .threads) ≡ maxThreads
+  cell-full = sym (length-map (c .effect7 .result .threads) _) ∙ c .effect7 .ok .1 .1 .1 .1 .1 .0 .1 .0 .1
 
 -- a spurious wake
 module _ (c : tie.After-wakes-spuriously Inv-loop μ-loop) (woken : c .wakes-spuriously .result ≡ true) where
@@ -509,11 +453,11 @@ module _ (c : tie.After-wakes-spuriously Inv-loop μ-loop) (woken : c .wakes-spu
   wakes = InEffect (m (loud c)) (work' c) Kept
 
   wakes-less : weight wakes < weight (here (loud c) .loop .acting)
-  wakes-less = arm-less c woke wakes-is wakes (spurious-is _ _ _)
+  wakes-less = fine-less c woke wakes-is refl
 
   wakes-kept : (fs : List Entry) → fs ≡ putEntry (es (here (loud c))) (about (loud c) .object) (woke .entry)
       → Running (table (here (loud c))) (list (here (loud c))) (given (here (loud c))) (ts (here (loud c))) fs (here (loud c) .loop .turn) (here (loud c) .loop .asked) wakes (here (loud c) .loop .at)
-  wakes-kept = arm-kept c woke wakes-is wakes (spurious-is _ _ _) refl
+  wakes-kept = fine-kept c woke wakes-is refl
 
 -- what follows an effect
 module _ (c : tie.After-next-in Inv-loop μ-loop) where
@@ -535,19 +479,19 @@ module _ (c : tie.After-next-in Inv-loop μ-loop) where
   is-who' : c .before .before .before .before .before .before .before .before .before .before .before .who3 .result ≡ who mv
   is-who' = c .before .before .before .before .before .before .before .before .before .before .before .who3 .ensures
 
-  seen' : c .before .before .before .before .before .before .before .before .before .if32 .x ≡ threadAt (ts at') (who mv)
+  seen' : c .before .before .before .before .before .before .before .before .before .if25 .x ≡ threadAt (ts at') (who mv)
   seen' =
       let u : ThreadId = c .before .before .before .before .before .before .before .before .before .before .before .who3 .result in
-      let found : c .before .before .before .before .before .before .before .before .before .if32 .x ≡ threadAt (ts at') u =
-      elim (c .before .before .before .before .before .before .before .before .before .if32 .came) [
+      let found : c .before .before .before .before .before .before .before .before .before .if25 .x ≡ threadAt (ts at') u =
+      elim (c .before .before .before .before .before .before .before .before .before .if25 .came) [
         | inl w ↦ w .2 ∙ getD-within (ts at') (u .0) _ _ (omega (arith, w .0 .taken, six at'))
         | inr w ↦ w .2 ∙ w .1 .ensures ∙ sym (List·getD-eq-default (ts at') _ (omega (arith, w .0 .left, six at')))
       ] in
       found ∙ ap (threadAt (ts at')) is-who'
 
-  read' : c .before .before .before .before .before .if33 .e ≡ entryAt (es at') (wk .object)
+  read' : c .before .before .before .before .before .if26 .e ≡ entryAt (es at') (wk .object)
   read' =
-      elim (c .before .before .before .before .before .if33 .came) [
+      elim (c .before .before .before .before .before .if26 .came) [
         | inl w ↦ w .2 ∙ taken-there (es at') (wk .object .0) _ (omega (arith, w .0 .taken, runs at' .all))
         | inr w ↦ w .1 ∙ c .before .before .before .before .before .before .absent6 .ensures ∙ taken-none (es at') (wk .object .0) (omega (arith, w .0 .left, runs at' .all))
       ]
@@ -565,39 +509,39 @@ module _ (c : tie.After-next-in Inv-loop μ-loop) where
   access = record { «path_id» = c .before .before .turn-in .result; version = c .before .before .before .version .result }
 
 -- in its place
-module _ (c : tie.Joined34 Inv-loop μ-loop) where
+module _ (c : tie.Joined27 Inv-loop μ-loop) where
   abbrev tl : tie.After-next-in Inv-loop μ-loop
   tl = c .before
 
   abbrev its : Entry
   its = entryAt (es (at' tl)) (wk tl .object)
 
-  gone : c .if34 .threads ≡ changed (ts (at' tl)) (who (mv tl)) (afterEffect (mv tl) (waitOf (wk tl .call)) (an tl) (version (runs (at' tl)) (mv tl) (wk tl) (an tl) (in-effect tl)))
+  gone : c .if27 .threads ≡ changed (ts (at' tl)) (who (mv tl)) (afterEffect (mv tl) (waitOf (wk tl .call)) (an tl) (version (runs (at' tl)) (mv tl) (wk tl) (an tl) (in-effect tl)))
   gone =
       let us : List Thread = ts (at' tl) in
       let i : ℕ = tl .before .before .before .before .before .before .before .before .before .before .before .who3 .result .0 in
       let by : Thread → Thread = afterEffect (mv tl) (tl .before .before .before .before .wait-of .result) (an tl) (tl .before .before .before .version .result) in
-      let put : c .if34 .threads ≡ set us i (by (threadAt us (who (mv tl)))) =
-      elim (c .if34 .came) [
+      let put : c .if27 .threads ≡ set us i (by (threadAt us (who (mv tl)))) =
+      elim (c .if27 .came) [
         | inl w ↦ w .2 ∙ ap (set us i) (w .1 .ensures ∙ ap by (seen' tl))
         | inr w ↦ w .1 ∙ sym (set-out us i _ (omega (arith, w .0 .left, six (at' tl))))
       ] in
       put ∙ (λ j. set us (is-who' tl j .0) (afterEffect (mv tl) (tl .before .before .before .before .wait-of .ensures j) (an tl) (is-version tl j) (threadAt us (who (mv tl)))))
 
-  gone-full : length (c .if34 .threads) ≡ maxThreads
+  gone-full : length (c .if27 .threads) ≡ maxThreads
   gone-full = ap (λ (xs : List Thread). length xs) gone ∙ length-set (ts (at' tl)) (who (mv tl) .0) _ ∙ six (at' tl)
 
   follow-next : (fs : List Entry) → fs ≡ putEntry (es (at' tl)) (wk tl .object) (recordedIn (mv tl) (wk tl .call) (access tl) its)
-      → Running (table (at' tl)) (list (at' tl)) (given (at' tl)) (c .if34 .threads) fs (tl .before .before .turn-in .result) (tl .before .asked-in .result) (tl .next-in .result) (at' tl .loop .at)
+      → Running (table (at' tl)) (list (at' tl)) (given (at' tl)) (c .if27 .threads) fs (tl .before .before .turn-in .result) (tl .before .asked-in .result) (tl .next-in .result) (at' tl .loop .at)
   follow-next fs p =
-      followed-on (runs (at' tl)) (mv tl) (wk tl) (an tl) (in-effect tl) (c .if34 .threads) fs _ _ _ gone
+      followed-on (runs (at' tl)) (mv tl) (wk tl) (an tl) (in-effect tl) (c .if27 .threads) fs _ _ _ gone
       (p ∙ (λ i. putEntry (es (at' tl)) (wk tl .object) (recordedIn (mv tl) (wk tl .call) (record { «path_id» = tl .before .before .turn-in .ensures i; version = is-version tl i }) its)))
       (tl .before .before .turn-in .ensures) (tl .before .asked-in .ensures) (is-next' tl)
 
   -- the access, recorded in its place
   recorded-there : isBegun (mv tl) ≡ true → wk tl .object .0 < maxObjects → (d : Entry) (fs : List Entry)
       → fs ≡ putEntry (es (at' tl)) (wk tl .object) (setLastAccess (wk tl .call) (access tl) (getD (es (at' tl)) (wk tl .object .0) d))
-      → Running (table (at' tl)) (list (at' tl)) (given (at' tl)) (c .if34 .threads) fs (tl .before .before .turn-in .result) (tl .before .asked-in .result) (tl .next-in .result) (at' tl .loop .at)
+      → Running (table (at' tl)) (list (at' tl)) (given (at' tl)) (c .if27 .threads) fs (tl .before .before .turn-in .result) (tl .before .asked-in .result) (tl .next-in .result) (at' tl .loop .at)
   recorded-there b h d fs p =
       let same = taken-there (es (at' tl)) (wk tl .object .0) d (omega (arith, h, runs (at' tl) .all)) in
       follow-next fs
@@ -607,7 +551,7 @@ module _ (c : tie.Joined34 Inv-loop μ-loop) where
 
   -- nothing is recorded
   unrecorded : its ≡ recordedIn (mv tl) (wk tl .call) (access tl) its
-      → Running (table (at' tl)) (list (at' tl)) (given (at' tl)) (c .if34 .threads) (es (at' tl)) (tl .before .before .turn-in .result) (tl .before .asked-in .result) (tl .next-in .result) (at' tl .loop .at)
+      → Running (table (at' tl)) (list (at' tl)) (given (at' tl)) (c .if27 .threads) (es (at' tl)) (tl .before .before .turn-in .result) (tl .before .asked-in .result) (tl .next-in .result) (at' tl .loop .at)
   unrecorded h = follow-next (es (at' tl)) (sym (set-getD (es (at' tl)) (wk tl .object .0) (newEntry noObject)) ∙ ap (putEntry (es (at' tl)) (wk tl .object)) h)
 
 loop-holds : tie.Need-loop-holds Inv-loop μ-loop
@@ -807,11 +751,17 @@ array-copy-out-e-3 c = search needs
 effect-requires : tie.Need-effect-requires Inv-loop μ-loop
 effect-requires c κs = search needs
 
+enum-told-2 : tie.Need-enum-told-2 Inv-loop μ-loop
+enum-told-2 c = search needs
+
 outcome-requires : tie.Need-outcome-requires Inv-loop μ-loop
 outcome-requires c κs = search needs
 
-is-fine-requires : tie.Need-is-fine-requires Inv-loop μ-loop
-is-fine-requires c κs = search needs
+loop-less-6 : tie.Need-loop-less-6 Inv-loop μ-loop
+loop-less-6 c = let e = c .before .before in omega (arith, arm-less (mutex-at e) (mutex-done e) (mutex-is e) _ (c .outcome .ensures))
+
+loop-again-6 : tie.Need-loop-again-6 Inv-loop μ-loop
+loop-again-6 c = let e = c .before .before in (arm-left (mutex-at e) (mutex-done e) (mutex-is e) _ (c .outcome .ensures) (fails (mutex-done e .ending) (c .before .match3 .keys2)), six (here (loud (mutex-at e))))
 
 mul-e-4 : tie.Need-mul-e-4 Inv-loop μ-loop
 mul-e-4 c = search needs
@@ -825,29 +775,25 @@ mul-objects-2 c = search needs
 array-set-from-objects-2 : tie.Need-array-set-from-objects-2 Inv-loop μ-loop
 array-set-from-objects-2 c = search needs
 
-loop-less-6 : tie.Need-loop-less-6 Inv-loop μ-loop
-loop-less-6 c = omega (arith, mutex-less (c .before .before .before .before .before .before))
-
-loop-again-6 : tie.Need-loop-again-6 Inv-loop μ-loop
-loop-again-6 c =
-    let r = c .before .before .before .before .before .before in
-    let w = mutex-at r in (
-      mutex-kept r (sym (c .before .before .before .before .before .is-fine .ensures) ∙ c .before .before .before .before .if12 .taken) _
-          (ap (λ (y : Entry). putEntry (es (here (loud w))) (about (loud w) .object) (putMutex y (r .before .effect .result .state))) (there w _ (c .before .before .if13 .taken))),
-      mutex-full r,
-    )
-
 loop-less-7 : tie.Need-loop-less-7 Inv-loop μ-loop
-loop-less-7 c = omega (arith, mutex-less (c .before .before .before .before))
+loop-less-7 c = let e = c .before .before .before .before .before .before in omega (arith, fine-less (mutex-at e) (mutex-done e) (mutex-is e) (c .before .before .before .before .enum-told2 .given .1))
 
 loop-again-7 : tie.Need-loop-again-7 Inv-loop μ-loop
-loop-again-7 c = let r = c .before .before .before .before in (mutex-kept r (sym (c .before .before .before .is-fine .ensures) ∙ c .before .before .if12 .taken) _ (unput (mutex-at r) _ (c .if13 .left)), mutex-full r)
+loop-again-7 c =
+    let e = c .before .before .before .before .before .before in
+    let w = mutex-at e in (
+      fine-kept w (mutex-done e) (mutex-is e) (c .before .before .before .before .enum-told2 .given .1) _
+          (ap (λ (y : Entry). putEntry (es (here (loud w))) (about (loud w) .object) (putMutex y (e .effect .result .state))) (there w _ (c .before .before .if12 .taken))),
+      mutex-full e,
+    )
 
 loop-less-8 : tie.Need-loop-less-8 Inv-loop μ-loop
-loop-less-8 c = omega (arith, mutex-less (c .before .before))
+loop-less-8 c = let e = c .before .before .before .before in omega (arith, fine-less (mutex-at e) (mutex-done e) (mutex-is e) (c .before .before .enum-told2 .given .1))
 
 loop-again-8 : tie.Need-loop-again-8 Inv-loop μ-loop
-loop-again-8 c = let r = c .before .before in (mutex-left r (sym (c .before .is-fine .ensures) ∙ c .if12 .left), six (here (loud (mutex-at r))))
+loop-again-8 c =
+    let e = c .before .before .before .before in
+    (fine-kept (mutex-at e) (mutex-done e) (mutex-is e) (c .before .before .enum-told2 .given .1) _ (unput (mutex-at e) _ (c .if12 .left)), mutex-full e)
 
 enum-known-work-call-2 : tie.Need-enum-known-work-call-2 Inv-loop μ-loop
 enum-known-work-call-2 c = search needs
@@ -861,11 +807,17 @@ array-copy-out-e-5 c = search needs
 effect-requires-2 : tie.Need-effect-requires-2 Inv-loop μ-loop
 effect-requires-2 c κs = search needs
 
+enum-told-3 : tie.Need-enum-told-3 Inv-loop μ-loop
+enum-told-3 c = search needs
+
 outcome-requires-2 : tie.Need-outcome-requires-2 Inv-loop μ-loop
 outcome-requires-2 c κs = search needs
 
-is-fine-requires-2 : tie.Need-is-fine-requires-2 Inv-loop μ-loop
-is-fine-requires-2 c κs = search needs
+loop-less-9 : tie.Need-loop-less-9 Inv-loop μ-loop
+loop-less-9 c = let e = c .before .before in omega (arith, arm-less (rwlock-at e) (rwlock-done e) (rwlock-is e) _ (c .outcome2 .ensures))
+
+loop-again-9 : tie.Need-loop-again-9 Inv-loop μ-loop
+loop-again-9 c = let e = c .before .before in (arm-left (rwlock-at e) (rwlock-done e) (rwlock-is e) _ (c .outcome2 .ensures) (fails (rwlock-done e .ending) (c .before .match4 .keys2)), six (here (loud (rwlock-at e))))
 
 mul-e-6 : tie.Need-mul-e-6 Inv-loop μ-loop
 mul-e-6 c = search needs
@@ -879,29 +831,25 @@ mul-objects-3 c = search needs
 array-set-from-objects-3 : tie.Need-array-set-from-objects-3 Inv-loop μ-loop
 array-set-from-objects-3 c = search needs
 
-loop-less-9 : tie.Need-loop-less-9 Inv-loop μ-loop
-loop-less-9 c = omega (arith, rwlock-less (c .before .before .before .before .before .before))
-
-loop-again-9 : tie.Need-loop-again-9 Inv-loop μ-loop
-loop-again-9 c =
-    let r = c .before .before .before .before .before .before in
-    let w = rwlock-at r in (
-      rwlock-kept r (sym (c .before .before .before .before .before .is-fine2 .ensures) ∙ c .before .before .before .before .if15 .taken) _
-          (ap (λ (y : Entry). putEntry (es (here (loud w))) (about (loud w) .object) (putRwLock y (r .before .effect2 .result .state))) (there w _ (c .before .before .if16 .taken))),
-      rwlock-full r,
-    )
-
 loop-less-10 : tie.Need-loop-less-10 Inv-loop μ-loop
-loop-less-10 c = omega (arith, rwlock-less (c .before .before .before .before))
+loop-less-10 c = let e = c .before .before .before .before .before .before in omega (arith, fine-less (rwlock-at e) (rwlock-done e) (rwlock-is e) (c .before .before .before .before .enum-told3 .given .1))
 
 loop-again-10 : tie.Need-loop-again-10 Inv-loop μ-loop
-loop-again-10 c = let r = c .before .before .before .before in (rwlock-kept r (sym (c .before .before .before .is-fine2 .ensures) ∙ c .before .before .if15 .taken) _ (unput (rwlock-at r) _ (c .if16 .left)), rwlock-full r)
+loop-again-10 c =
+    let e = c .before .before .before .before .before .before in
+    let w = rwlock-at e in (
+      fine-kept w (rwlock-done e) (rwlock-is e) (c .before .before .before .before .enum-told3 .given .1) _
+          (ap (λ (y : Entry). putEntry (es (here (loud w))) (about (loud w) .object) (putRwLock y (e .effect2 .result .state))) (there w _ (c .before .before .if14 .taken))),
+      rwlock-full e,
+    )
 
 loop-less-11 : tie.Need-loop-less-11 Inv-loop μ-loop
-loop-less-11 c = omega (arith, rwlock-less (c .before .before))
+loop-less-11 c = let e = c .before .before .before .before in omega (arith, fine-less (rwlock-at e) (rwlock-done e) (rwlock-is e) (c .before .before .enum-told3 .given .1))
 
 loop-again-11 : tie.Need-loop-again-11 Inv-loop μ-loop
-loop-again-11 c = let r = c .before .before in (rwlock-left r (sym (c .before .is-fine2 .ensures) ∙ c .if15 .left), six (here (loud (rwlock-at r))))
+loop-again-11 c =
+    let e = c .before .before .before .before in
+    (fine-kept (rwlock-at e) (rwlock-done e) (rwlock-is e) (c .before .before .enum-told3 .given .1) _ (unput (rwlock-at e) _ (c .if14 .left)), rwlock-full e)
 
 enum-known-work-call-3 : tie.Need-enum-known-work-call-3 Inv-loop μ-loop
 enum-known-work-call-3 c = search needs
@@ -915,11 +863,17 @@ array-copy-out-e-7 c = search needs
 effect-requires-3 : tie.Need-effect-requires-3 Inv-loop μ-loop
 effect-requires-3 c κs = search needs
 
+enum-told-4 : tie.Need-enum-told-4 Inv-loop μ-loop
+enum-told-4 c = search needs
+
 outcome-requires-3 : tie.Need-outcome-requires-3 Inv-loop μ-loop
 outcome-requires-3 c κs = search needs
 
-is-fine-requires-3 : tie.Need-is-fine-requires-3 Inv-loop μ-loop
-is-fine-requires-3 c κs = search needs
+loop-less-12 : tie.Need-loop-less-12 Inv-loop μ-loop
+loop-less-12 c = let e = c .before .before in omega (arith, arm-less (condvar-at e) (condvar-done e) (condvar-is e) _ (c .outcome3 .ensures))
+
+loop-again-12 : tie.Need-loop-again-12 Inv-loop μ-loop
+loop-again-12 c = let e = c .before .before in (arm-left (condvar-at e) (condvar-done e) (condvar-is e) _ (c .outcome3 .ensures) (fails (condvar-done e .ending) (c .before .match5 .keys2)), six (here (loud (condvar-at e))))
 
 mul-e-8 : tie.Need-mul-e-8 Inv-loop μ-loop
 mul-e-8 c = search needs
@@ -933,29 +887,25 @@ mul-objects-4 c = search needs
 array-set-from-objects-4 : tie.Need-array-set-from-objects-4 Inv-loop μ-loop
 array-set-from-objects-4 c = search needs
 
-loop-less-12 : tie.Need-loop-less-12 Inv-loop μ-loop
-loop-less-12 c = omega (arith, condvar-less (c .before .before .before .before .before .before))
-
-loop-again-12 : tie.Need-loop-again-12 Inv-loop μ-loop
-loop-again-12 c =
-    let r = c .before .before .before .before .before .before in
-    let w = condvar-at r in (
-      condvar-kept r (sym (c .before .before .before .before .before .is-fine3 .ensures) ∙ c .before .before .before .before .if18 .taken) _
-          (ap (λ (y : Entry). putEntry (es (here (loud w))) (about (loud w) .object) (putCondvar y (r .before .effect3 .result .state))) (there w _ (c .before .before .if19 .taken))),
-      condvar-full r,
-    )
-
 loop-less-13 : tie.Need-loop-less-13 Inv-loop μ-loop
-loop-less-13 c = omega (arith, condvar-less (c .before .before .before .before))
+loop-less-13 c = let e = c .before .before .before .before .before .before in omega (arith, fine-less (condvar-at e) (condvar-done e) (condvar-is e) (c .before .before .before .before .enum-told4 .given .1))
 
 loop-again-13 : tie.Need-loop-again-13 Inv-loop μ-loop
-loop-again-13 c = let r = c .before .before .before .before in (condvar-kept r (sym (c .before .before .before .is-fine3 .ensures) ∙ c .before .before .if18 .taken) _ (unput (condvar-at r) _ (c .if19 .left)), condvar-full r)
+loop-again-13 c =
+    let e = c .before .before .before .before .before .before in
+    let w = condvar-at e in (
+      fine-kept w (condvar-done e) (condvar-is e) (c .before .before .before .before .enum-told4 .given .1) _
+          (ap (λ (y : Entry). putEntry (es (here (loud w))) (about (loud w) .object) (putCondvar y (e .effect3 .result .state))) (there w _ (c .before .before .if16 .taken))),
+      condvar-full e,
+    )
 
 loop-less-14 : tie.Need-loop-less-14 Inv-loop μ-loop
-loop-less-14 c = omega (arith, condvar-less (c .before .before))
+loop-less-14 c = let e = c .before .before .before .before in omega (arith, fine-less (condvar-at e) (condvar-done e) (condvar-is e) (c .before .before .enum-told4 .given .1))
 
 loop-again-14 : tie.Need-loop-again-14 Inv-loop μ-loop
-loop-again-14 c = let r = c .before .before in (condvar-left r (sym (c .before .is-fine3 .ensures) ∙ c .if18 .left), six (here (loud (condvar-at r))))
+loop-again-14 c =
+    let e = c .before .before .before .before in
+    (fine-kept (condvar-at e) (condvar-done e) (condvar-is e) (c .before .before .enum-told4 .given .1) _ (unput (condvar-at e) _ (c .if16 .left)), condvar-full e)
 
 enum-known-work-call-4 : tie.Need-enum-known-work-call-4 Inv-loop μ-loop
 enum-known-work-call-4 c = search needs
@@ -969,11 +919,17 @@ array-copy-out-e-9 c = search needs
 effect-requires-4 : tie.Need-effect-requires-4 Inv-loop μ-loop
 effect-requires-4 c κs = search needs
 
+enum-told-5 : tie.Need-enum-told-5 Inv-loop μ-loop
+enum-told-5 c = search needs
+
 outcome-requires-4 : tie.Need-outcome-requires-4 Inv-loop μ-loop
 outcome-requires-4 c κs = search needs
 
-is-fine-requires-4 : tie.Need-is-fine-requires-4 Inv-loop μ-loop
-is-fine-requires-4 c κs = search needs
+loop-less-15 : tie.Need-loop-less-15 Inv-loop μ-loop
+loop-less-15 c = let e = c .before .before in omega (arith, arm-less (notify-at e) (notify-done e) (notify-is e) _ (c .outcome4 .ensures))
+
+loop-again-15 : tie.Need-loop-again-15 Inv-loop μ-loop
+loop-again-15 c = let e = c .before .before in (arm-left (notify-at e) (notify-done e) (notify-is e) _ (c .outcome4 .ensures) (fails (notify-done e .ending) (c .before .match6 .keys2)), six (here (loud (notify-at e))))
 
 mul-e-10 : tie.Need-mul-e-10 Inv-loop μ-loop
 mul-e-10 c = search needs
@@ -987,29 +943,25 @@ mul-objects-5 c = search needs
 array-set-from-objects-5 : tie.Need-array-set-from-objects-5 Inv-loop μ-loop
 array-set-from-objects-5 c = search needs
 
-loop-less-15 : tie.Need-loop-less-15 Inv-loop μ-loop
-loop-less-15 c = omega (arith, notify-less (c .before .before .before .before .before .before))
-
-loop-again-15 : tie.Need-loop-again-15 Inv-loop μ-loop
-loop-again-15 c =
-    let r = c .before .before .before .before .before .before in
-    let w = notify-at r in (
-      notify-kept r (sym (c .before .before .before .before .before .is-fine4 .ensures) ∙ c .before .before .before .before .if21 .taken) _
-          (ap (λ (y : Entry). putEntry (es (here (loud w))) (about (loud w) .object) (putNotify y (r .before .effect4 .result .state))) (there w _ (c .before .before .if22 .taken))),
-      notify-full r,
-    )
-
 loop-less-16 : tie.Need-loop-less-16 Inv-loop μ-loop
-loop-less-16 c = omega (arith, notify-less (c .before .before .before .before))
+loop-less-16 c = let e = c .before .before .before .before .before .before in omega (arith, fine-less (notify-at e) (notify-done e) (notify-is e) (c .before .before .before .before .enum-told5 .given .1))
 
 loop-again-16 : tie.Need-loop-again-16 Inv-loop μ-loop
-loop-again-16 c = let r = c .before .before .before .before in (notify-kept r (sym (c .before .before .before .is-fine4 .ensures) ∙ c .before .before .if21 .taken) _ (unput (notify-at r) _ (c .if22 .left)), notify-full r)
+loop-again-16 c =
+    let e = c .before .before .before .before .before .before in
+    let w = notify-at e in (
+      fine-kept w (notify-done e) (notify-is e) (c .before .before .before .before .enum-told5 .given .1) _
+          (ap (λ (y : Entry). putEntry (es (here (loud w))) (about (loud w) .object) (putNotify y (e .effect4 .result .state))) (there w _ (c .before .before .if18 .taken))),
+      notify-full e,
+    )
 
 loop-less-17 : tie.Need-loop-less-17 Inv-loop μ-loop
-loop-less-17 c = omega (arith, notify-less (c .before .before))
+loop-less-17 c = let e = c .before .before .before .before in omega (arith, fine-less (notify-at e) (notify-done e) (notify-is e) (c .before .before .enum-told5 .given .1))
 
 loop-again-17 : tie.Need-loop-again-17 Inv-loop μ-loop
-loop-again-17 c = let r = c .before .before in (notify-left r (sym (c .before .is-fine4 .ensures) ∙ c .if21 .left), six (here (loud (notify-at r))))
+loop-again-17 c =
+    let e = c .before .before .before .before in
+    (fine-kept (notify-at e) (notify-done e) (notify-is e) (c .before .before .enum-told5 .given .1) _ (unput (notify-at e) _ (c .if18 .left)), notify-full e)
 
 enum-known-work-call-5 : tie.Need-enum-known-work-call-5 Inv-loop μ-loop
 enum-known-work-call-5 c = search needs
@@ -1023,11 +975,17 @@ array-copy-out-e-11 c = search needs
 effect-requires-5 : tie.Need-effect-requires-5 Inv-loop μ-loop
 effect-requires-5 c κs = search needs
 
+enum-told-6 : tie.Need-enum-told-6 Inv-loop μ-loop
+enum-told-6 c = search needs
+
 outcome-requires-5 : tie.Need-outcome-requires-5 Inv-loop μ-loop
 outcome-requires-5 c κs = search needs
 
-is-fine-requires-5 : tie.Need-is-fine-requires-5 Inv-loop μ-loop
-is-fine-requires-5 c κs = search needs
+loop-less-18 : tie.Need-loop-less-18 Inv-loop μ-loop
+loop-less-18 c = let e = c .before .before in omega (arith, arm-less (channel-at e) (channel-done e) (channel-is e) _ (c .outcome5 .ensures))
+
+loop-again-18 : tie.Need-loop-again-18 Inv-loop μ-loop
+loop-again-18 c = let e = c .before .before in (arm-left (channel-at e) (channel-done e) (channel-is e) _ (c .outcome5 .ensures) (fails (channel-done e .ending) (c .before .match7 .keys2)), six (here (loud (channel-at e))))
 
 mul-e-12 : tie.Need-mul-e-12 Inv-loop μ-loop
 mul-e-12 c = search needs
@@ -1041,29 +999,25 @@ mul-objects-6 c = search needs
 array-set-from-objects-6 : tie.Need-array-set-from-objects-6 Inv-loop μ-loop
 array-set-from-objects-6 c = search needs
 
-loop-less-18 : tie.Need-loop-less-18 Inv-loop μ-loop
-loop-less-18 c = omega (arith, channel-less (c .before .before .before .before .before .before))
-
-loop-again-18 : tie.Need-loop-again-18 Inv-loop μ-loop
-loop-again-18 c =
-    let r = c .before .before .before .before .before .before in
-    let w = channel-at r in (
-      channel-kept r (sym (c .before .before .before .before .before .is-fine5 .ensures) ∙ c .before .before .before .before .if24 .taken) _
-          (ap (λ (y : Entry). putEntry (es (here (loud w))) (about (loud w) .object) (putChannel y (r .before .effect5 .result .state))) (there w _ (c .before .before .if25 .taken))),
-      channel-full r,
-    )
-
 loop-less-19 : tie.Need-loop-less-19 Inv-loop μ-loop
-loop-less-19 c = omega (arith, channel-less (c .before .before .before .before))
+loop-less-19 c = let e = c .before .before .before .before .before .before in omega (arith, fine-less (channel-at e) (channel-done e) (channel-is e) (c .before .before .before .before .enum-told6 .given .1))
 
 loop-again-19 : tie.Need-loop-again-19 Inv-loop μ-loop
-loop-again-19 c = let r = c .before .before .before .before in (channel-kept r (sym (c .before .before .before .is-fine5 .ensures) ∙ c .before .before .if24 .taken) _ (unput (channel-at r) _ (c .if25 .left)), channel-full r)
+loop-again-19 c =
+    let e = c .before .before .before .before .before .before in
+    let w = channel-at e in (
+      fine-kept w (channel-done e) (channel-is e) (c .before .before .before .before .enum-told6 .given .1) _
+          (ap (λ (y : Entry). putEntry (es (here (loud w))) (about (loud w) .object) (putChannel y (e .effect5 .result .state))) (there w _ (c .before .before .if20 .taken))),
+      channel-full e,
+    )
 
 loop-less-20 : tie.Need-loop-less-20 Inv-loop μ-loop
-loop-less-20 c = omega (arith, channel-less (c .before .before))
+loop-less-20 c = let e = c .before .before .before .before in omega (arith, fine-less (channel-at e) (channel-done e) (channel-is e) (c .before .before .enum-told6 .given .1))
 
 loop-again-20 : tie.Need-loop-again-20 Inv-loop μ-loop
-loop-again-20 c = let r = c .before .before in (channel-left r (sym (c .before .is-fine5 .ensures) ∙ c .if24 .left), six (here (loud (channel-at r))))
+loop-again-20 c =
+    let e = c .before .before .before .before in
+    (fine-kept (channel-at e) (channel-done e) (channel-is e) (c .before .before .enum-told6 .given .1) _ (unput (channel-at e) _ (c .if20 .left)), channel-full e)
 
 enum-known-work-call-6 : tie.Need-enum-known-work-call-6 Inv-loop μ-loop
 enum-known-work-call-6 c = search needs
@@ -1077,11 +1031,17 @@ array-copy-out-e-13 c = search needs
 effect-requires-6 : tie.Need-effect-requires-6 Inv-loop μ-loop
 effect-requires-6 c κs = search needs
 
+enum-told-7 : tie.Need-enum-told-7 Inv-loop μ-loop
+enum-told-7 c = search needs
+
 outcome-requires-6 : tie.Need-outcome-requires-6 Inv-loop μ-loop
 outcome-requires-6 c κs = search needs
 
-is-fine-requires-6 : tie.Need-is-fine-requires-6 Inv-loop μ-loop
-is-fine-requires-6 c κs = search needs
+loop-less-21 : tie.Need-loop-less-21 Inv-loop μ-loop
+loop-less-21 c = let e = c .before .before in omega (arith, arm-less (arc-at e) (arc-done e) (arc-is e) _ (c .outcome6 .ensures))
+
+loop-again-21 : tie.Need-loop-again-21 Inv-loop μ-loop
+loop-again-21 c = let e = c .before .before in (arm-left (arc-at e) (arc-done e) (arc-is e) _ (c .outcome6 .ensures) (fails (arc-done e .ending) (c .before .match8 .keys2)), six (here (loud (arc-at e))))
 
 mul-e-14 : tie.Need-mul-e-14 Inv-loop μ-loop
 mul-e-14 c = search needs
@@ -1095,29 +1055,25 @@ mul-objects-7 c = search needs
 array-set-from-objects-7 : tie.Need-array-set-from-objects-7 Inv-loop μ-loop
 array-set-from-objects-7 c = search needs
 
-loop-less-21 : tie.Need-loop-less-21 Inv-loop μ-loop
-loop-less-21 c = omega (arith, arc-less (c .before .before .before .before .before .before))
-
-loop-again-21 : tie.Need-loop-again-21 Inv-loop μ-loop
-loop-again-21 c =
-    let r = c .before .before .before .before .before .before in
-    let w = arc-at r in (
-      arc-kept r (sym (c .before .before .before .before .before .is-fine6 .ensures) ∙ c .before .before .before .before .if27 .taken) _
-          (ap (λ (y : Entry). putEntry (es (here (loud w))) (about (loud w) .object) (putArc y (r .before .effect6 .result .state))) (there w _ (c .before .before .if28 .taken))),
-      arc-full r,
-    )
-
 loop-less-22 : tie.Need-loop-less-22 Inv-loop μ-loop
-loop-less-22 c = omega (arith, arc-less (c .before .before .before .before))
+loop-less-22 c = let e = c .before .before .before .before .before .before in omega (arith, fine-less (arc-at e) (arc-done e) (arc-is e) (c .before .before .before .before .enum-told7 .given .1))
 
 loop-again-22 : tie.Need-loop-again-22 Inv-loop μ-loop
-loop-again-22 c = let r = c .before .before .before .before in (arc-kept r (sym (c .before .before .before .is-fine6 .ensures) ∙ c .before .before .if27 .taken) _ (unput (arc-at r) _ (c .if28 .left)), arc-full r)
+loop-again-22 c =
+    let e = c .before .before .before .before .before .before in
+    let w = arc-at e in (
+      fine-kept w (arc-done e) (arc-is e) (c .before .before .before .before .enum-told7 .given .1) _
+          (ap (λ (y : Entry). putEntry (es (here (loud w))) (about (loud w) .object) (putArc y (e .effect6 .result .state))) (there w _ (c .before .before .if22 .taken))),
+      arc-full e,
+    )
 
 loop-less-23 : tie.Need-loop-less-23 Inv-loop μ-loop
-loop-less-23 c = omega (arith, arc-less (c .before .before))
+loop-less-23 c = let e = c .before .before .before .before in omega (arith, fine-less (arc-at e) (arc-done e) (arc-is e) (c .before .before .enum-told7 .given .1))
 
 loop-again-23 : tie.Need-loop-again-23 Inv-loop μ-loop
-loop-again-23 c = let r = c .before .before in (arc-left r (sym (c .before .is-fine6 .ensures) ∙ c .if27 .left), six (here (loud (arc-at r))))
+loop-again-23 c =
+    let e = c .before .before .before .before in
+    (fine-kept (arc-at e) (arc-done e) (arc-is e) (c .before .before .enum-told7 .given .1) _ (unput (arc-at e) _ (c .if22 .left)), arc-full e)
 
 enum-known-work-call-7 : tie.Need-enum-known-work-call-7 Inv-loop μ-loop
 enum-known-work-call-7 c = search needs
@@ -1131,11 +1087,17 @@ array-copy-out-e-15 c = search needs
 effect-requires-7 : tie.Need-effect-requires-7 Inv-loop μ-loop
 effect-requires-7 c κs = search needs
 
+enum-told-8 : tie.Need-enum-told-8 Inv-loop μ-loop
+enum-told-8 c = search needs
+
 outcome-requires-7 : tie.Need-outcome-requires-7 Inv-loop μ-loop
 outcome-requires-7 c κs = search needs
 
-is-fine-requires-7 : tie.Need-is-fine-requires-7 Inv-loop μ-loop
-is-fine-requires-7 c κs = search needs
+loop-less-24 : tie.Need-loop-less-24 Inv-loop μ-loop
+loop-less-24 c = let e = c .before .before in omega (arith, arm-less (cell-at e) (cell-done e) (cell-is e) _ (c .outcome7 .ensures))
+
+loop-again-24 : tie.Need-loop-again-24 Inv-loop μ-loop
+loop-again-24 c = let e = c .before .before in (arm-left (cell-at e) (cell-done e) (cell-is e) _ (c .outcome7 .ensures) (fails (cell-done e .ending) (c .before .match9 .keys2)), six (here (loud (cell-at e))))
 
 mul-e-16 : tie.Need-mul-e-16 Inv-loop μ-loop
 mul-e-16 c = search needs
@@ -1149,29 +1111,25 @@ mul-objects-8 c = search needs
 array-set-from-objects-8 : tie.Need-array-set-from-objects-8 Inv-loop μ-loop
 array-set-from-objects-8 c = search needs
 
-loop-less-24 : tie.Need-loop-less-24 Inv-loop μ-loop
-loop-less-24 c = omega (arith, cell-less (c .before .before .before .before .before .before))
-
-loop-again-24 : tie.Need-loop-again-24 Inv-loop μ-loop
-loop-again-24 c =
-    let r = c .before .before .before .before .before .before in
-    let w = cell-at r in (
-      cell-kept r (sym (c .before .before .before .before .before .is-fine7 .ensures) ∙ c .before .before .before .before .if30 .taken) _
-          (ap (λ (y : Entry). putEntry (es (here (loud w))) (about (loud w) .object) (putCell y (r .before .effect7 .result .state))) (there w _ (c .before .before .if31 .taken))),
-      cell-full r,
-    )
-
 loop-less-25 : tie.Need-loop-less-25 Inv-loop μ-loop
-loop-less-25 c = omega (arith, cell-less (c .before .before .before .before))
+loop-less-25 c = let e = c .before .before .before .before .before .before in omega (arith, fine-less (cell-at e) (cell-done e) (cell-is e) (c .before .before .before .before .enum-told8 .given .1))
 
 loop-again-25 : tie.Need-loop-again-25 Inv-loop μ-loop
-loop-again-25 c = let r = c .before .before .before .before in (cell-kept r (sym (c .before .before .before .is-fine7 .ensures) ∙ c .before .before .if30 .taken) _ (unput (cell-at r) _ (c .if31 .left)), cell-full r)
+loop-again-25 c =
+    let e = c .before .before .before .before .before .before in
+    let w = cell-at e in (
+      fine-kept w (cell-done e) (cell-is e) (c .before .before .before .before .enum-told8 .given .1) _
+          (ap (λ (y : Entry). putEntry (es (here (loud w))) (about (loud w) .object) (putCell y (e .effect7 .result .state))) (there w _ (c .before .before .if24 .taken))),
+      cell-full e,
+    )
 
 loop-less-26 : tie.Need-loop-less-26 Inv-loop μ-loop
-loop-less-26 c = omega (arith, cell-less (c .before .before))
+loop-less-26 c = let e = c .before .before .before .before in omega (arith, fine-less (cell-at e) (cell-done e) (cell-is e) (c .before .before .enum-told8 .given .1))
 
 loop-again-26 : tie.Need-loop-again-26 Inv-loop μ-loop
-loop-again-26 c = let r = c .before .before in (cell-left r (sym (c .before .is-fine7 .ensures) ∙ c .if30 .left), six (here (loud (cell-at r))))
+loop-again-26 c =
+    let e = c .before .before .before .before in
+    (fine-kept (cell-at e) (cell-done e) (cell-is e) (c .before .before .enum-told8 .given .1) _ (unput (cell-at e) _ (c .if24 .left)), cell-full e)
 
 enum-known-acting-2 : tie.Need-enum-known-acting-2 Inv-loop μ-loop
 enum-known-acting-2 c = search needs
@@ -1230,8 +1188,8 @@ array-set-from-threads-2 c = search needs
 is-begun-requires-2 : tie.Need-is-begun-requires-2 Inv-loop μ-loop
 is-begun-requires-2 c κs = search needs
 
-enum-told-2 : tie.Need-enum-told-2 Inv-loop μ-loop
-enum-told-2 c = search needs
+enum-told-9 : tie.Need-enum-told-9 Inv-loop μ-loop
+enum-told-9 c = search needs
 
 mul-e-18 : tie.Need-mul-e-18 Inv-loop μ-loop
 mul-e-18 c = search needs
@@ -1255,13 +1213,13 @@ loop-again-27 : tie.Need-loop-again-27 Inv-loop μ-loop
 loop-again-27 c =
     let j = c .before .before .before .before .before .before .before .before in
     let y : Entry = getD (es (at' (tl j))) (wk (tl j) .object .0) _ in (
-      recorded-there j (sym (c .before .before .before .before .before .before .is-begun2 .ensures) ∙ c .before .before .before .before .before .if36 .taken) (c .before .before .before .before .before .before .before .if35 .taken) _ _
-          (ap (putEntry (es (at' (tl j))) (wk (tl j) .object)) (recorded-mutex (access (tl j)) y (c .before .before .before .enum-told2 .given .1) _ (c .set-last-access .ensures))),
+      recorded-there j (sym (c .before .before .before .before .before .before .is-begun2 .ensures) ∙ c .before .before .before .before .before .if29 .taken) (c .before .before .before .before .before .before .before .if28 .taken) _ _
+          (ap (putEntry (es (at' (tl j))) (wk (tl j) .object)) (recorded-mutex (access (tl j)) y (c .before .before .before .enum-told9 .given .1) _ (c .set-last-access .ensures))),
       gone-full j,
     )
 
-enum-told-3 : tie.Need-enum-told-3 Inv-loop μ-loop
-enum-told-3 c = search needs
+enum-told-10 : tie.Need-enum-told-10 Inv-loop μ-loop
+enum-told-10 c = search needs
 
 mul-e-19 : tie.Need-mul-e-19 Inv-loop μ-loop
 mul-e-19 c = search needs
@@ -1285,13 +1243,13 @@ loop-again-28 : tie.Need-loop-again-28 Inv-loop μ-loop
 loop-again-28 c =
     let j = c .before .before .before .before .before .before .before .before in
     let y : Entry = getD (es (at' (tl j))) (wk (tl j) .object .0) _ in (
-      recorded-there j (sym (c .before .before .before .before .before .before .is-begun2 .ensures) ∙ c .before .before .before .before .before .if36 .taken) (c .before .before .before .before .before .before .before .if35 .taken) _ _
-          (ap (putEntry (es (at' (tl j))) (wk (tl j) .object)) (recorded-rwlock (access (tl j)) y (c .before .before .before .enum-told3 .given .1) _ (c .set-last-access2 .ensures))),
+      recorded-there j (sym (c .before .before .before .before .before .before .is-begun2 .ensures) ∙ c .before .before .before .before .before .if29 .taken) (c .before .before .before .before .before .before .before .if28 .taken) _ _
+          (ap (putEntry (es (at' (tl j))) (wk (tl j) .object)) (recorded-rwlock (access (tl j)) y (c .before .before .before .enum-told10 .given .1) _ (c .set-last-access2 .ensures))),
       gone-full j,
     )
 
-enum-told-4 : tie.Need-enum-told-4 Inv-loop μ-loop
-enum-told-4 c = search needs
+enum-told-11 : tie.Need-enum-told-11 Inv-loop μ-loop
+enum-told-11 c = search needs
 
 mul-e-20 : tie.Need-mul-e-20 Inv-loop μ-loop
 mul-e-20 c = search needs
@@ -1315,13 +1273,13 @@ loop-again-29 : tie.Need-loop-again-29 Inv-loop μ-loop
 loop-again-29 c =
     let j = c .before .before .before .before .before .before .before .before in
     let y : Entry = getD (es (at' (tl j))) (wk (tl j) .object .0) _ in (
-      recorded-there j (sym (c .before .before .before .before .before .before .is-begun2 .ensures) ∙ c .before .before .before .before .before .if36 .taken) (c .before .before .before .before .before .before .before .if35 .taken) _ _
-          (ap (putEntry (es (at' (tl j))) (wk (tl j) .object)) (recorded-condvar (access (tl j)) y (c .before .before .before .enum-told4 .given .1) _ (c .set-last-access3 .ensures))),
+      recorded-there j (sym (c .before .before .before .before .before .before .is-begun2 .ensures) ∙ c .before .before .before .before .before .if29 .taken) (c .before .before .before .before .before .before .before .if28 .taken) _ _
+          (ap (putEntry (es (at' (tl j))) (wk (tl j) .object)) (recorded-condvar (access (tl j)) y (c .before .before .before .enum-told11 .given .1) _ (c .set-last-access3 .ensures))),
       gone-full j,
     )
 
-enum-told-5 : tie.Need-enum-told-5 Inv-loop μ-loop
-enum-told-5 c = search needs
+enum-told-12 : tie.Need-enum-told-12 Inv-loop μ-loop
+enum-told-12 c = search needs
 
 mul-e-21 : tie.Need-mul-e-21 Inv-loop μ-loop
 mul-e-21 c = search needs
@@ -1345,8 +1303,8 @@ loop-again-30 : tie.Need-loop-again-30 Inv-loop μ-loop
 loop-again-30 c =
     let j = c .before .before .before .before .before .before .before .before in
     let y : Entry = getD (es (at' (tl j))) (wk (tl j) .object .0) _ in (
-      recorded-there j (sym (c .before .before .before .before .before .before .is-begun2 .ensures) ∙ c .before .before .before .before .before .if36 .taken) (c .before .before .before .before .before .before .before .if35 .taken) _ _
-          (ap (putEntry (es (at' (tl j))) (wk (tl j) .object)) (recorded-notify (access (tl j)) y (c .before .before .before .enum-told5 .given .1) _ (c .set-last-access4 .ensures))),
+      recorded-there j (sym (c .before .before .before .before .before .before .is-begun2 .ensures) ∙ c .before .before .before .before .before .if29 .taken) (c .before .before .before .before .before .before .before .if28 .taken) _ _
+          (ap (putEntry (es (at' (tl j))) (wk (tl j) .object)) (recorded-notify (access (tl j)) y (c .before .before .before .enum-told12 .given .1) _ (c .set-last-access4 .ensures))),
       gone-full j,
     )
 
@@ -1378,7 +1336,7 @@ loop-again-31 : tie.Need-loop-again-31 Inv-loop μ-loop
 loop-again-31 c =
     let j = c .before .before .before .before .before .before .before .before .before .before in
     let y : Entry = getD (es (at' (tl j))) (wk (tl j) .object .0) _ in (
-      recorded-there j (sym (c .before .before .before .before .before .before .before .before .is-begun2 .ensures) ∙ c .before .before .before .before .before .before .before .if36 .taken) (c .before .before .before .before .before .before .before .before .before .if35 .taken) _ _
+      recorded-there j (sym (c .before .before .before .before .before .before .before .before .is-begun2 .ensures) ∙ c .before .before .before .before .before .before .before .if29 .taken) (c .before .before .before .before .before .before .before .before .before .if28 .taken) _ _
           (ap (putEntry (es (at' (tl j))) (wk (tl j) .object)) (recorded-channel (access (tl j)) y (c .before .before .before .before .before .work-call8 .given .1) _ (c .set-last-access5 .ensures ∙ ap (λ (a : ChannelAction). mpsc.setLastAccess a (access (tl j)) (y .channel)) (c .before .action-of .ensures)))),
       gone-full j,
     )
@@ -1411,13 +1369,13 @@ loop-again-32 : tie.Need-loop-again-32 Inv-loop μ-loop
 loop-again-32 c =
     let j = c .before .before .before .before .before .before .before .before .before .before in
     let y : Entry = getD (es (at' (tl j))) (wk (tl j) .object .0) _ in (
-      recorded-there j (sym (c .before .before .before .before .before .before .before .before .is-begun2 .ensures) ∙ c .before .before .before .before .before .before .before .if36 .taken) (c .before .before .before .before .before .before .before .before .before .if35 .taken) _ _
+      recorded-there j (sym (c .before .before .before .before .before .before .before .before .is-begun2 .ensures) ∙ c .before .before .before .before .before .before .before .if29 .taken) (c .before .before .before .before .before .before .before .before .before .if28 .taken) _ _
           (ap (putEntry (es (at' (tl j))) (wk (tl j) .object)) (recorded-arc (access (tl j)) y (c .before .before .before .before .before .work-call9 .given .1) _ (c .set-last-access6 .ensures ∙ ap (λ (a : ArcAction). arc.setLastAccess a (access (tl j)) (y .arc)) (c .before .action-of2 .ensures)))),
       gone-full j,
     )
 
-enum-told-6 : tie.Need-enum-told-6 Inv-loop μ-loop
-enum-told-6 c = search needs
+enum-told-13 : tie.Need-enum-told-13 Inv-loop μ-loop
+enum-told-13 c = search needs
 
 loop-less-33 : tie.Need-loop-less-33 Inv-loop μ-loop
 loop-less-33 c = omega (arith, follow-less (tl (c .before .before .before .before .before)))
@@ -1426,8 +1384,8 @@ loop-again-33 : tie.Need-loop-again-33 Inv-loop μ-loop
 loop-again-33 c =
     let j = c .before .before .before .before .before in (
       unrecorded j
-          (recorded-cell (access (tl j)) (its j) (c .enum-told6 .given .1)
-          ∙ recorded-begun (mv (tl j)) (wk (tl j) .call) (access (tl j)) (its j) (sym (c .before .before .before .is-begun2 .ensures) ∙ c .before .before .if36 .taken)),
+          (recorded-cell (access (tl j)) (its j) (c .enum-told13 .given .1)
+          ∙ recorded-begun (mv (tl j)) (wk (tl j) .call) (access (tl j)) (its j) (sym (c .before .before .before .is-begun2 .ensures) ∙ c .before .before .if29 .taken)),
       gone-full j,
     )
 
@@ -1435,37 +1393,37 @@ loop-less-34 : tie.Need-loop-less-34 Inv-loop μ-loop
 loop-less-34 c = omega (arith, follow-less (tl (c .before .before .before)))
 
 loop-again-34 : tie.Need-loop-again-34 Inv-loop μ-loop
-loop-again-34 c = let j = c .before .before .before in (unrecorded j (recorded-not (mv (tl j)) (wk (tl j) .call) (access (tl j)) (its j) (sym (c .before .is-begun2 .ensures) ∙ c .if36 .left)), gone-full j)
+loop-again-34 c = let j = c .before .before .before in (unrecorded j (recorded-not (mv (tl j)) (wk (tl j) .call) (access (tl j)) (its j) (sym (c .before .is-begun2 .ensures) ∙ c .if29 .left)), gone-full j)
 
 loop-less-35 : tie.Need-loop-less-35 Inv-loop μ-loop
 loop-less-35 c = omega (arith, follow-less (tl (c .before)))
 
 loop-again-35 : tie.Need-loop-again-35 Inv-loop μ-loop
-loop-again-35 c = let j = c .before in (follow-next j _ (sym (set-out (es (at' (tl j))) (wk (tl j) .object .0) _ (omega (arith, c .if35 .left, runs (at' (tl j)) .all)))), gone-full j)
+loop-again-35 c = let j = c .before in (follow-next j _ (sym (set-out (es (at' (tl j))) (wk (tl j) .object .0) _ (omega (arith, c .if28 .left, runs (at' (tl j)) .all)))), gone-full j)
 
-enum-told-7 : tie.Need-enum-told-7 Inv-loop μ-loop
-enum-told-7 c = search needs
+enum-told-14 : tie.Need-enum-told-14 Inv-loop μ-loop
+enum-told-14 c = search needs
 
 after-requires : tie.Need-after-requires Inv-loop μ-loop
 after-requires c κs = search needs
 
 loop-less-36 : tie.Need-loop-less-36 Inv-loop μ-loop
-loop-less-36 c = omega (arith, turn-over-less (runs (c .before .before .before)) (c .before .enum-told7 .given .1) _ (c .after .ensures))
+loop-less-36 c = omega (arith, turn-over-less (runs (c .before .before .before)) (c .before .enum-told14 .given .1) _ (c .after .ensures))
 
 loop-again-36 : tie.Need-loop-again-36 Inv-loop μ-loop
-loop-again-36 c = (turn-over (runs (c .before .before .before)) (c .before .enum-told7 .given .1) _ (c .after .ensures), six (c .before .before .before))
+loop-again-36 c = (turn-over (runs (c .before .before .before)) (c .before .enum-told14 .given .1) _ (c .after .ensures), six (c .before .before .before))
 
-enum-told-8 : tie.Need-enum-told-8 Inv-loop μ-loop
-enum-told-8 c = search needs
+enum-told-15 : tie.Need-enum-told-15 Inv-loop μ-loop
+enum-told-15 c = search needs
 
 leak-check-requires : tie.Need-leak-check-requires Inv-loop μ-loop
 leak-check-requires c κs = search needs
 
 loop-less-37 : tie.Need-loop-less-37 Inv-loop μ-loop
-loop-less-37 c = omega (arith, all-ended-less (runs (c .before .before .before)) (c .before .enum-told8 .given .1) (c .leak-check .result))
+loop-less-37 c = omega (arith, all-ended-less (runs (c .before .before .before)) (c .before .enum-told15 .given .1) (c .leak-check .result))
 
 loop-again-37 : tie.Need-loop-again-37 Inv-loop μ-loop
-loop-again-37 c = (all-ended (runs (c .before .before .before)) (c .before .enum-told8 .given .1) _ (c .leak-check .ensures), six (c .before .before .before))
+loop-again-37 c = (all-ended (runs (c .before .before .before)) (c .before .enum-told15 .given .1) _ (c .leak-check .ensures), six (c .before .before .before))
 
 enum-known-acting-3 : tie.Need-enum-known-acting-3 Inv-loop μ-loop
 enum-known-acting-3 c = search needs
@@ -1474,13 +1432,13 @@ refused-requires-2 : tie.Need-refused-requires-2 Inv-loop μ-loop
 refused-requires-2 c κs = search needs
 
 returns-3 : tie.Need-returns-3 Inv-loop μ-loop
-returns-3 c = c .refused2 .ensures ∙ surplus-left (runs (c .before .before .before .before .before)) _ (c .before .before .before .acting3 .given .1) (c .before .if37 .taken)
+returns-3 c = c .refused2 .ensures ∙ surplus-left (runs (c .before .before .before .before .before)) _ (c .before .before .before .acting3 .given .1) (c .before .if30 .taken)
 
 came-to-requires-2 : tie.Need-came-to-requires-2 Inv-loop μ-loop
 came-to-requires-2 c κs = search needs
 
 returns-4 : tie.Need-returns-4 Inv-loop μ-loop
-returns-4 c = c .came-to2 .ensures ∙ verdict-reached (runs (c .before .before .before .before .before)) _ (c .before .before .before .acting3 .given .1) (c .before .if37 .left)
+returns-4 c = c .came-to2 .ensures ∙ verdict-reached (runs (c .before .before .before .before .before)) _ (c .before .before .before .acting3 .given .1) (c .before .if30 .left)
 
 pub run-spec : {M : Type 1} → statement M
 run-spec =
@@ -1547,14 +1505,14 @@ run-spec =
     mul-e-3
     array-copy-out-e-3
     effect-requires
+    enum-told-2
     outcome-requires
-    is-fine-requires
+    loop-less-6
+    loop-again-6
     mul-e-4
     array-copy-out-e-4
     mul-objects-2
     array-set-from-objects-2
-    loop-less-6
-    loop-again-6
     loop-less-7
     loop-again-7
     loop-less-8
@@ -1563,14 +1521,14 @@ run-spec =
     mul-e-5
     array-copy-out-e-5
     effect-requires-2
+    enum-told-3
     outcome-requires-2
-    is-fine-requires-2
+    loop-less-9
+    loop-again-9
     mul-e-6
     array-copy-out-e-6
     mul-objects-3
     array-set-from-objects-3
-    loop-less-9
-    loop-again-9
     loop-less-10
     loop-again-10
     loop-less-11
@@ -1579,14 +1537,14 @@ run-spec =
     mul-e-7
     array-copy-out-e-7
     effect-requires-3
+    enum-told-4
     outcome-requires-3
-    is-fine-requires-3
+    loop-less-12
+    loop-again-12
     mul-e-8
     array-copy-out-e-8
     mul-objects-4
     array-set-from-objects-4
-    loop-less-12
-    loop-again-12
     loop-less-13
     loop-again-13
     loop-less-14
@@ -1595,14 +1553,14 @@ run-spec =
     mul-e-9
     array-copy-out-e-9
     effect-requires-4
+    enum-told-5
     outcome-requires-4
-    is-fine-requires-4
+    loop-less-15
+    loop-again-15
     mul-e-10
     array-copy-out-e-10
     mul-objects-5
     array-set-from-objects-5
-    loop-less-15
-    loop-again-15
     loop-less-16
     loop-again-16
     loop-less-17
@@ -1611,14 +1569,14 @@ run-spec =
     mul-e-11
     array-copy-out-e-11
     effect-requires-5
+    enum-told-6
     outcome-requires-5
-    is-fine-requires-5
+    loop-less-18
+    loop-again-18
     mul-e-12
     array-copy-out-e-12
     mul-objects-6
     array-set-from-objects-6
-    loop-less-18
-    loop-again-18
     loop-less-19
     loop-again-19
     loop-less-20
@@ -1627,14 +1585,14 @@ run-spec =
     mul-e-13
     array-copy-out-e-13
     effect-requires-6
+    enum-told-7
     outcome-requires-6
-    is-fine-requires-6
+    loop-less-21
+    loop-again-21
     mul-e-14
     array-copy-out-e-14
     mul-objects-7
     array-set-from-objects-7
-    loop-less-21
-    loop-again-21
     loop-less-22
     loop-again-22
     loop-less-23
@@ -1643,14 +1601,14 @@ run-spec =
     mul-e-15
     array-copy-out-e-15
     effect-requires-7
+    enum-told-8
     outcome-requires-7
-    is-fine-requires-7
+    loop-less-24
+    loop-again-24
     mul-e-16
     array-copy-out-e-16
     mul-objects-8
     array-set-from-objects-8
-    loop-less-24
-    loop-again-24
     loop-less-25
     loop-again-25
     loop-less-26
@@ -1674,7 +1632,7 @@ run-spec =
     mul-threads-2
     array-set-from-threads-2
     is-begun-requires-2
-    enum-told-2
+    enum-told-9
     mul-e-18
     array-copy-out-e-18
     set-last-access-requires
@@ -1682,7 +1640,7 @@ run-spec =
     array-set-from-objects-9
     loop-less-27
     loop-again-27
-    enum-told-3
+    enum-told-10
     mul-e-19
     array-copy-out-e-19
     set-last-access-requires-2
@@ -1690,7 +1648,7 @@ run-spec =
     array-set-from-objects-10
     loop-less-28
     loop-again-28
-    enum-told-4
+    enum-told-11
     mul-e-20
     array-copy-out-e-20
     set-last-access-requires-3
@@ -1698,7 +1656,7 @@ run-spec =
     array-set-from-objects-11
     loop-less-29
     loop-again-29
-    enum-told-5
+    enum-told-12
     mul-e-21
     array-copy-out-e-21
     set-last-access-requires-4
@@ -1724,18 +1682,18 @@ run-spec =
     array-set-from-objects-14
     loop-less-32
     loop-again-32
-    enum-told-6
+    enum-told-13
     loop-less-33
     loop-again-33
     loop-less-34
     loop-again-34
     loop-less-35
     loop-again-35
-    enum-told-7
+    enum-told-14
     after-requires
     loop-less-36
     loop-again-36
-    enum-told-8
+    enum-told-15
     leak-check-requires
     loop-less-37
     loop-again-37

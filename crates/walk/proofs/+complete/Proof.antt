@@ -3,7 +3,7 @@ use mathlib.Core.Path.{refl}
 use Rattle.lent.specs.Itself.{Turning, again}
 use Rattle.rules.specs.Walk.{left}
 use Rattle.walk.specs.Says.{least, Advances, Completable, Completes}
-use Rattle.walk.specs.Completing.{extended-last, extended-ready, extended-less, extended-on}
+use Rattle.walk.specs.Completing.{extended-ready, extended-less, advanced-last, advanced-on}
 use Rattle.walk.proofs.Data.{completion}
 use Rattle.walk.proofs.advance.Symbol as g
 use Rattle.walk.proofs.advance.Met as g-thm
@@ -14,10 +14,10 @@ use Rattle.walk.proofs.+complete.Code as code
 turning : Turning completion Advances Completable Completes
 turning = record {
   size = λ c. left (c .table) (c .world);
-  last = λ c r n x. extended-last c (least c) r n x;
+  last = λ c r n x. advanced-last c r n x;
   keeps = λ c r n x. extended-ready c (least c) r n x;
   falls = λ c r n x. extended-less c (least c) r n x;
-  leads = λ c r z n x e. extended-on c (least c) r n x z e;
+  leads = λ c r z n x e. advanced-on c r n x z e;
 }
 
 pub +complete-spec : {M : Type 1} → statement M

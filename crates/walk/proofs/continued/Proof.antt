@@ -1,6 +1,5 @@
 -- `walk::continued` meets its contract.
-use mathlib.Core.Path.{sym, subst}
-use mathlib.Core.Bool.{Bool}
+use mathlib.Core.Path.{subst}
 use Rattle.walk.specs.Says.{Extends}
 use Rattle.walk.specs.Completing.{extended-last, extended-ready, extended-on}
 use borrow.Author.Needs.{needs}
