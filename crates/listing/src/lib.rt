@@ -7,11 +7,13 @@ ghost use lib.ListN.{length};
 use line::put_line;
 use rules::answer::Answer;
 use rules::table::LIST;
-use rules::table::SHEET;
-use turns::judge;
+use rules::table::Table;
+use rules::table::Taken;
 use turns_answer::numbers;
-use walk::first;
-use walk::next;
+use turns_run::End;
+use turns_table::read_table;
+use walker::advance;
+use walker::begin;
 
 // More than any table that is accepted, and more than the place of any refusal.
 const TABLE: usize = 2048;
@@ -58,10 +60,12 @@ fn say_refused(to: i32, a: Answer) {
     io::write_all(to, b"\n");
 }
 
-// The number of a run's verdict.
-fn verdict(table: &[u8], list: &[u8]) -> u8 {
-    let mut sheet = [0u8; SHEET];
-    let six = numbers(judge(table, list, &mut sheet));
+// The number of a run's verdict; an end that is none has no digit.
+fn verdict(end: End) -> u8 {
+    let End::Verdict(a) = end else {
+        return u8::MAX;
+    };
+    let six = numbers(a);
     six.number
 }
 
@@ -91,33 +95,33 @@ fn make_room(to: i32, out: &[u8], used: usize) -> Room {
 }
 
 // Adds the line of one run, and hands back how much waits then.
-fn add_line(table: &[u8], list: &[u8], out: &mut [u8], used: usize) -> usize
+fn add_line(end: End, list: &[u8], out: &mut [u8], used: usize) -> usize
     requires { ⌜ length (now list) < 1000 ⌝ }
 {
     let at = at_most(used, OUT);
-    put_line(out, at, verdict(table, list), list)
+    put_line(out, at, verdict(end), list)
 }
 
-// The runs from one list on. Nothing says that they end, so they are counted down, from a number that no walk uses up.
-fn go_through(table: &[u8], found: [u8; LIST], count: usize, to: i32) {
+// The runs of a table. Nothing says that they end, so they are counted down, from a number that no walk uses up.
+fn go_through(table: Table, to: i32) {
     let mut out = [0u8; OUT];
-    let mut list = found;
-    let mut k = count;
+    let mut w = begin(table);
     let mut used = 0;
     let mut turns = u64::MAX;
     while turns > 0 {
+        if w.over {
+            flush(to, &out, used);
+            return;
+        }
         let Room::From(at) = make_room(to, &out, used) else {
             return;
         };
-        let n = at_most(k, LIST);
-        used = add_line(table, &list[..n], &mut out, at);
-        let mut larger = [0u8; LIST];
-        let Answer::ListWritten(m) = next(table, &list[..n], &mut larger) else {
-            flush(to, &out, used);
-            return;
-        };
-        list = larger;
-        k = m;
+        let path = w.path;
+        let list = path.list;
+        let end = path.end;
+        let n = at_most(path.at, LIST);
+        used = add_line(end, &list[..n], &mut out, at);
+        w = advance(w);
         turns -= 1;
     }
 }
@@ -126,11 +130,12 @@ fn go_through(table: &[u8], found: [u8; LIST], count: usize, to: i32) {
 pub fn list_runs(from: i32, to: i32) {
     let mut table = [0u8; TABLE];
     let n = read_input(from, &mut table);
-    let mut list = [0u8; LIST];
-    let a = first(&table[..n], &mut list);
-    let Answer::ListWritten(k) = a else {
-        say_refused(to, a);
+    let read = read_table(&table[..n]);
+    let taken = read.taken;
+    let t = read.table;
+    let Taken::Refused(a) = taken else {
+        go_through(t, to);
         return;
     };
-    go_through(&table[..n], list, k, to);
+    say_refused(to, a);
 }

@@ -4,7 +4,8 @@
 --     walkFrom next n l  l, the list after it, and so on, at most n lists
 --     walk n w           the walk by firstOf and nextOf
 --     tree-enumerates    so there is such an L
---     walk-by            any first and next that meet their statements walk through it
+--     Chain, chain-by    any first and next that meet their statements give L, list by list, and then none
+--     walk-by            so they walk through it
 --     walk-enumerates, walk-once, walk-no-other, all-reached, enumerates-unique   of the walk by firstOf and nextOf
 use mathlib.Core.Path.{_≡_, refl, sym, _∙_, ap}
 use mathlib.Core.Logic.{_⊎_, inl, inr}
@@ -198,21 +199,26 @@ unfoldable pub walkFrom : (List ℕ → Option (List ℕ)) → ℕ → List ℕ 
 walkFrom next zero l = []
 walkFrom next (suc n) l = l ∷ walkOn (next l) (walkFrom next n)
 
+-- what `next` gives from the list x on: the first of ls, of that one the second, and so on, and of the last none
+abbrev pub Chain : (List ℕ → Option (List ℕ)) → List ℕ → List (List ℕ) → Type 0
+Chain next x [] = next x ≡ none
+Chain next x (y ∷ ls) = (next x ≡ some y) × Chain next y ls
+
+chain-walk : (next : List ℕ → Option (List ℕ)) (ls : List (List ℕ)) (x : List ℕ) (n : ℕ) → Chain next x ls → length ls < n → walkFrom next n x ≡ x ∷ ls
+unfolding walkFrom
+chain-walk next [] x zero c h = absurd (omega arith)
+chain-walk next [] x (suc n) c h = rw c refl
+chain-walk next (y ∷ ls) x zero c h = absurd (omega arith)
+chain-walk next (y ∷ ls) x (suc n) c h = rw (c .0) (ap (λ (k : List (List ℕ)). x ∷ k) (chain-walk next ls y n (c .1) (omega arith)))
+
 -- Any `first` and `next` of which what the rules say is true walk through every list that enumerates. Nothing is assumed of the machine
 module _ {W Verdict : Type 0} (decide : W → ℕ → Outcome W Verdict) (w : W) (next : List ℕ → Option (List ℕ))
     (answers : (l : List ℕ) → Complete decide w l → Answers decide w l (next l)) where
   -- from the list x on, where x ∷ ls are the complete lists from x up
-  pub walkFrom-is : (ls : List (List ℕ)) (x : List ℕ) (n : ℕ) → Rising (x ∷ ls) → ((m : List ℕ) → In m (x ∷ ls) → Complete decide w m)
-      → ((m : List ℕ) → Complete decide w m → x <ₗ m → In m ls) → length ls < n → walkFrom next n x ≡ x ∷ ls
-  unfolding walkFrom
-  walkFrom-is [] x zero r c a h = absurd (omega arith)
-  walkFrom-is [] x (suc n) r c a h =
-      let e = answers-unique decide w x (next x) none (answers x (c x (inl refl))) a in
-      rw e refl
-  walkFrom-is (y ∷ ls) x zero r c a h = absurd (omega arith)
-  walkFrom-is (y ∷ ls) x (suc n) r c a h =
-      let e = answers-unique decide w x (next x) (some y) (answers x (c x (inl refl))) after in
-      rw e (ap (λ (k : List (List ℕ)). x ∷ k) (walkFrom-is ls y n (r .1) (λ m i. c m (inr i)) onward (omega arith)))
+  chain-from : (ls : List (List ℕ)) (x : List ℕ) → Rising (x ∷ ls) → ((m : List ℕ) → In m (x ∷ ls) → Complete decide w m)
+      → ((m : List ℕ) → Complete decide w m → x <ₗ m → In m ls) → Chain next x ls
+  chain-from [] x r c a = answers-unique decide w x (next x) none (answers x (c x (inl refl))) a
+  chain-from (y ∷ ls) x r c a = (answers-unique decide w x (next x) (some y) (answers x (c x (inl refl))) after, chain-from ls y (r .1) (λ m i. c m (inr i)) onward)
     where
       least-of : (m : List ℕ) → In m (y ∷ ls) → y ≤ₗ m
       least-of m (inl e) = inl (sym e)
@@ -229,11 +235,11 @@ module _ {W Verdict : Type 0} (decide : W → ℕ → Outcome W Verdict) (w : W)
       onward m k p = past m p (a m k (less-trans x y m (r .0 y (inl refl)) p))
 
   module _ (first : List ℕ) (is-first : IsFirst decide w first) where
-    pub walk-by : (ls : List (List ℕ)) (n : ℕ) → Enumerates decide w ls → length ls ≤ n → walkFrom next n first ≡ ls
-    walk-by [] n s h = absurd (s .all first (is-first .whole))
-    walk-by (x ∷ ls) n s h =
+    pub chain-by : (ls : List (List ℕ)) → Enumerates decide w ls → (rest : List (List ℕ)) × (ls ≡ first ∷ rest) × Chain next first rest
+    chain-by [] s = absurd (s .all first (is-first .whole))
+    chain-by (x ∷ ls) s =
         let e = first-unique decide w first x is-first least in
-        rw e (walkFrom-is ls x n (s .rising) (s .whole) (λ m k p. past m p (s .all m k)) h)
+        (ls, ap (λ (y : List ℕ). y ∷ ls) (sym e), (rw e (chain-from ls x (s .rising) (s .whole) (λ m k p. past m p (s .all m k)))))
       where
         least-of : (m : List ℕ) → In m (x ∷ ls) → x ≤ₗ m
         least-of m (inl e) = inl (sym e)
@@ -245,6 +251,11 @@ module _ {W Verdict : Type 0} (decide : W → ℕ → Outcome W Verdict) (w : W)
         past : (m : List ℕ) → x <ₗ m → In m (x ∷ ls) → In m ls
         past m p (inl e) = absurd (less-irrefl x (rw e at p))
         past m p (inr i) = i
+
+    pub walk-by : (ls : List (List ℕ)) (n : ℕ) → Enumerates decide w ls → length ls ≤ n → walkFrom next n first ≡ ls
+    walk-by ls n s h =
+        let r = chain-by ls s in
+        chain-walk next (r .0) first n (r .2) (omega (arith, h, ap length (r .1))) ∙ sym (r .1)
 
 -- the lists that are met from the first on
 pub data Reached (first : List ℕ) (next : List ℕ → Option (List ℕ)) : List ℕ → Type 0 where

@@ -1,7 +1,6 @@
 -- Worked examples as tables of cases: what a call gives for a table and a list, beside what document 01 says that it gives.
 use Prim.Native.Nat.{ℕ, zero, suc, _+_}
-use mathlib.Core.Path.{_≡_}
-use mathlib.Core.Bool.{true, false}
+use mathlib.Core.Bool.{Bool, true, false}
 use mathlib.Core.List.{List, [], _∷_, _++_}
 use lib.Dec.{eqb}
 use lib.ListN.{take, drop, replicate}
@@ -47,37 +46,37 @@ pub record Calls : Type 0 where
 abbrev pub definitions : Calls
 definitions = record { judge = judgeOf; first = firstOf; next = nextOf }
 
--- the code's promise: each call gives what the definitions say
-pub record Promised (c : Calls) : Type 0 where
-  pub judge : (table list buffer : List ℕ) → c .judge table list buffer ≡ judgeOf table list buffer
-  pub first : (table buffer : List ℕ) → c .first table buffer ≡ firstOf table buffer
-  pub next : (table list buffer : List ℕ) → c .next table list buffer ≡ nextOf table list buffer
-
 pub record Case : Type 0 where
   pub table : List ℕ
   pub list : List ℕ
   pub look : Look
   pub expected : List ℕ
 
-abbrev sixNumbers : Numbers → List ℕ
+abbrev pub sixNumbers : Numbers → List ℕ
 sixNumbers n = n .number ∷ n .place ∷ n .thread ∷ n .position ∷ n .object ∷ n .other ∷ []
 
 -- the buffer that is lent: 160 times EE
 abbrev pub lent : List ℕ
 lent = replicate 160 0xEE
 
+-- whether "first" or "next" gave a list, and which
+abbrev pub isWritten : Given → Bool
+isWritten g = eqb (answer.numbersOf (g .answer) .number) 8
+
+abbrev pub writtenOf : Given → List ℕ
+writtenOf g = take (answer.numbersOf (g .answer) .place) (g .buffer)
+
 -- a line for each list, from what "first" or "next" gave on, at most n
-abbrev lines : Calls → ℕ → List ℕ → Given → List ℕ
+abbrev pub lines : Calls → ℕ → List ℕ → Given → List ℕ
 lines c zero table g = []
 lines c (suc n) table g =
-    let six = answer.numbersOf (g .answer) in
-    let list = take (six .place) (g .buffer) in
-    elim (eqb (six .number) 8) [
+    let list = writtenOf g in
+    elim (isWritten g) [
       | true ↦ (48 + answer.numbersOf (c .judge table list lent .answer) .number) ∷ walk.decisionText list ++ lines c n table (c .next table list lent)
       | false ↦ []
     ]
 
-abbrev seen : Calls → Look → List ℕ → List ℕ → List ℕ
+abbrev pub seen : Calls → Look → List ℕ → List ℕ → List ℕ
 seen c numbers table list = sixNumbers (answer.numbersOf (c .judge table list lent .answer))
 seen c (bytes from n) table list = take n (drop from (c .judge table list lent .buffer))
 seen c runs table list = walk.runsOf 9 table

@@ -2,7 +2,8 @@
 use mathlib.Core.Path.{_≡_, refl, _∙_}
 use mathlib.Core.List.{List, [], _∷_, _++_, map}
 use lib.ListN.{replicate}
-use Rattle.rules.specs.Cases.{Case, Calls, Promised, numbers, bytes, runs, walked, definitions, given, expectedOf}
+use Rattle.rules.specs.Cases.{Case, Calls, numbers, bytes, runs, walked, definitions, given, expectedOf}
+use Rattle.rules.specs.Promised.{isBytes, Promised, same}
 
 abbrev examples : List Case
 examples =
@@ -35,10 +36,7 @@ examples =
     ∷ record { table = 0x13 ∷ 0x00 ∷ 0x01 ∷ 0x20 ∷ 0x3D ∷ 0x00 ∷ []; list = []; look = walked; expected = 50 ∷ 32 ∷ 48 ∷ 48 ∷ 32 ∷ 48 ∷ 48 ∷ 10 ∷ 48 ∷ 32 ∷ 48 ∷ 48 ∷ 32 ∷ 48 ∷ 49 ∷ 32 ∷ 48 ∷ 48 ∷ 10 ∷ [] }
     ∷ []
 
--- by whatever code keeps the promises, and so by the definitions themselves
+-- by whatever code keeps the promises of bytes, and so by the definitions themselves
 pub examples-hold : (c : Calls) → Promised c → map (given c) examples ≡ map expectedOf examples
-unfolding given
-examples-hold c p =
-    let computed : map (given definitions) examples ≡ map expectedOf examples = refl in
-    (λ i. map (given (record { judge = λ table list buffer. p .judge table list buffer i; first = λ table buffer. p .first table buffer i; next = λ table list buffer. p .next table list buffer i })) examples)
-    ∙ computed
+unfolding given isBytes
+examples-hold c p = let computed : map (given definitions) examples ≡ map expectedOf examples = refl in same c p examples tt ∙ computed

@@ -16,6 +16,7 @@ pub mod Sheet
 pub mod Judge
 pub mod Walk
 pub mod Cases
+pub mod Promised
 pub mod Examples
 pub mod Vectors
 pub mod RwLockLaws

@@ -262,11 +262,11 @@ no-count zero k = omega arith
 no-count (suc n) zero = omega arith
 no-count (suc n) (suc k) = no-count n k
 
-empty-within : Within emptyTable
+pub empty-within : Within emptyTable
 unfolding emptyTable
 empty-within = record { objects = omega arith; threads = omega arith; ops = refl; counts = refl; most = no-count maxThreads }
 
-op-within : (t : Table) (op : Op) → lastCount t < maxOperations → Within t → Within (withOp t op)
+pub op-within : (t : Table) (op : Op) → lastCount t < maxOperations → Within t → Within (withOp t op)
 unfolding withOp
 op-within t op l w =
     record {
@@ -277,11 +277,11 @@ op-within t op l w =
       most = count-most (t .counts) _ (lastCount t + 1) (omega (arith, l)) (w .most);
     }
 
-object-within : (t : Table) (m : Made) → t .«object_count» < maxObjects → Within t → Within (withObject t m)
+pub object-within : (t : Table) (m : Made) → t .«object_count» < maxObjects → Within t → Within (withObject t m)
 unfolding withObject
 object-within t m l w = record { objects = omega (arith, l); threads = w .threads; ops = w .ops; counts = w .counts; most = w .most }
 
-thread-within : (t : Table) → t .«thread_count» < maxThreads → Within t → Within (withThread t)
+pub thread-within : (t : Table) → t .«thread_count» < maxThreads → Within t → Within (withThread t)
 unfolding withThread
 thread-within t l w = record { objects = w .objects; threads = omega (arith, l); ops = w .ops; counts = w .counts; most = w .most }
 

@@ -1,256 +1,314 @@
--- The counts of objects whose type ends at 65,535: an Arc's count and a cell's readers. An effect raises one by one at most, a decision has at most
--- `maxOperations` effects, and a run at most `maxList` decisions.
-use mathlib.Core.Path.{_≡_, refl}
-use mathlib.Core.Bool.{Bool}
+-- The law of counting, three times: a channel's messages, an Arc's count, a cell's readers.
+use mathlib.Core.Path.{_≡_, refl, sym, _∙_, ap}
+use mathlib.Core.Bool.{Bool, true, false, not, _||_, false≢true}
 use mathlib.Core.List.{List}
-use Prim.Native.Nat.{ℕ, suc, _+_, _-_, _*_, _≤_, _<_}
+use Prim.Native.Nat.{ℕ, _+_, _-_, _≤_, _<_}
 use native.Mathlib.Omega.{arith}
-use lib.Dec.{eqb}
-use lib.ListN.{length, length-drop}
+use lib.Dec.{eqb, ltb}
+use borrow.Author.Tests.{eqb-false}
 use Rattle.clocks.specs.declared.clock.Clock.{Clock}
 use Rattle.clocks.specs.declared.thread.ThreadId.{ThreadId}
-use Rattle.lists.specs.Rules as outcome
 use Rattle.rules.specs.declared.access.Access.{Access}
 use Rattle.rules.specs.declared.object.ObjectId.{ObjectId}
 use Rattle.rules.specs.declared.object.Entry.{Entry}
 use Rattle.rules.specs.declared.object.Ending.{Ending}
-use Rattle.rules.specs.declared.mutex.Call.the-variants as mutex-call
-use Rattle.rules.specs.declared.notify.State.{State as NotifyState}
-use Rattle.rules.specs.declared.arc.Action.{Action as ArcAction}
-use Rattle.rules.specs.declared.arc.Action.the-variants as arc-action
+use Rattle.rules.specs.declared.object.Ending.the-variants as ending
 use Rattle.rules.specs.declared.arc.Call.{Call as ArcCall}
 use Rattle.rules.specs.declared.arc.Call.the-variants as arc-call
 use Rattle.rules.specs.declared.arc.State.{State as ArcState}
 use Rattle.rules.specs.declared.cell.Call.{Call as CellCall}
 use Rattle.rules.specs.declared.cell.Call.the-variants as cell-call
 use Rattle.rules.specs.declared.cell.State.{State as CellState}
-use Rattle.rules.specs.declared.thread.Thread.{Thread}
+use Rattle.rules.specs.declared.mpsc.Call.{Call as ChannelCall}
+use Rattle.rules.specs.declared.mpsc.Call.the-variants as mpsc-call
+use Rattle.rules.specs.declared.mpsc.State.{State as ChannelState}
+use Rattle.rules.specs.declared.condvar.Wait.the-variants.{On}
 use Rattle.rules.specs.declared.table.Call.{Call}
 use Rattle.rules.specs.declared.table.Call.the-variants.{Mutex, RwLock, Condvar, Notify, Channel, Arc, Cell}
+use Rattle.rules.specs.declared.notify.State.{State as NotifyState}
 use Rattle.rules.specs.declared.table.Made.{Made}
-use Rattle.rules.specs.declared.table.Op.{Op}
 use Rattle.rules.specs.declared.table.Table.{Table}
 use Rattle.rules.specs.declared.world.World.{World}
-use Rattle.rules.specs.Limits.{maxOperations, maxList}
-use Rattle.rules.specs.Ground.{threadAt, Touch, isFine, Does}
-use Rattle.rules.specs.Object.{putNotify, newEntry, noObject, putEntry}
+use Rattle.rules.specs.Limits.{maxMessages}
+use Rattle.rules.specs.Ground.{Touch, isFine, Does}
+use Rattle.rules.specs.Object.{newEntry, putNotify}
 use Rattle.rules.specs.Arc as arc
-use Rattle.rules.specs.Notify as notify
 use Rattle.rules.specs.Cell as cell
-use Rattle.rules.specs.Table.{opsOf, accepted, readTable}
-use Rattle.rules.specs.TableLaws.{by-test, ops-counted, Within, read-within}
-use Rattle.rules.specs.Effect.{setLastAccess, doing, effect}
-use Rattle.rules.specs.Turn.{threadIn, entryIn, start, operate, wait, opsLeft, spurious}
-use Rattle.rules.specs.Judge.{step}
-use Rattle.theorems.specs.Falling.{Good}
-use Rattle.theorems.specs.Reached.{Reached, run-by, reached-good}
-use Rattle.theorems.specs.Each.{Each, AnyOp, any-left, Passes, Begins, Answers, accessed, recorded, dependent, inEffect, waiting, decide-each, wanted-passes}
-use Rattle.theorems.specs.All.{All, all-set, all-map}
+use Rattle.rules.specs.Mpsc as mpsc
+use Rattle.rules.specs.Table.{accepted, readTable}
+use Rattle.rules.specs.TableLaws.{by-test}
+use Rattle.rules.specs.Effect.{asks, waitOf, setLastAccess, doing}
+use Rattle.rules.specs.Turn.{entryIn}
+use Rattle.theorems.specs.Reached.{Shown, Reached}
+use Rattle.theorems.specs.Each.{Each}
+use Rattle.theorems.specs.Done.{doneOf}
+use Rattle.theorems.specs.Counting.{Counted, counts, count-most, count-below}
 
--- the operations that a thread has left
-pub left-few : (table : Table) → Within table → (w : World) (t : ThreadId) → length (opsLeft table w t) ≤ maxOperations
-left-few table n w t = omega (arith, length-drop (threadIn w t .position) (opsOf table (t .0)), ops-counted table (t .0), n .most (t .0))
+-- what fails does not go well
+fails-not : {A : Type 0} (e : Ending) → isFine e ≡ false → e ≡ ending.Fine → A
+fails-not e f g = absurd (false≢true (sym f ∙ ap isFine g))
 
--- a count of an object that an effect raises by one at most, and nothing else does
-pub record Slow (N : Entry → ℕ) : Type 0 where
-  pub made : (m : Made) → N (newEntry m) ≤ 1
-  pub effects : (c : Call) (a : ThreadId) (o : ObjectId) (by : Clock) (e : Entry) → N (doing c a o by e .state) ≤ suc (N e)
-  pub records : (c : Call) (x : Access) (e : Entry) → N (setLastAccess c x e) ≡ N e
-  pub spurs : (e : Entry) (s : NotifyState) → N (putNotify e s) ≡ N e
+-- an effect of a kind that goes well: the count n and what the operation adds make the count then and what it takes
+abbrev Fair : {S : Type 0} → (S → ℕ) → ℕ → ℕ → ℕ → Does S → Type 0
+Fair N n up down d = d .ending ≡ ending.Fine → N (d .state) + down ≡ n + up
 
--- what a run takes it to at most
-abbrev pub mostCount : ℕ
-mostCount = 1 + maxOperations * maxList
+-- the operations of an Arc, a channel and a cell that count, up and down
+abbrev arcUp : ArcCall → ℕ
+arcUp arc-call.RefInc = 1
+arcUp arc-call.RefDec = 0
+arcUp arc-call.GetMut = 0
+arcUp arc-call.StrongCount = 0
 
-module _ (N : Entry → ℕ) (slow : Slow N) where
-  -- every object's count is at most b
-  abbrev pub Few : ℕ → World → Type 0
-  Few b w = All (λ k e. N e ≤ b) (newEntry noObject) (w .objects)
+abbrev arcDown : ArcCall → ℕ
+arcDown arc-call.RefInc = 0
+arcDown arc-call.RefDec = 1
+arcDown arc-call.GetMut = 0
+arcDown arc-call.StrongCount = 0
 
-  -- a larger bound
-  few-more : (b c : ℕ) (w : World) → b ≤ c → Few b w → Few c w
-  few-more b c w l h k = omega (arith, l, h k)
+abbrev channelUp : ChannelCall → ℕ
+channelUp mpsc-call.Send = 1
+channelUp mpsc-call.Recv = 0
 
-  -- every count is 1 at most at the start
-  start-few : (table : Table) → Few 1 (start table)
-  unfolding start
-  start-few table = all-map (λ e. N e ≤ 1) (newEntry noObject) newEntry (slow .made noObject) (slow .made) (table .objects)
+abbrev channelDown : ChannelCall → ℕ
+channelDown mpsc-call.Send = 0
+channelDown mpsc-call.Recv = 1
 
-  -- it is below its type's end
-  abbrev pub Below : ThreadId → Call → Entry → List Thread → Type 0
-  Below t c e ts = N e < 65535
+abbrev cellUp : CellCall → ℕ
+cellUp cell-call.StartRead = 1
+cellUp cell-call.EndRead = 0
+cellUp cell-call.StartWrite = 0
+cellUp cell-call.EndWrite = 0
 
-  module _ (table : Table) (n : Within table) (b : ℕ) (low : b + maxOperations < 65535) (w : World) (g : Good table w) (few : Few b w) where
-    -- where m operations are left, it is at most b + maxOperations - m
-    abbrev Mid : ThreadId → ℕ → World → Type 0
-    Mid t m v = (m ≤ maxOperations) × Few (b + maxOperations - m) v
+abbrev cellDown : CellCall → ℕ
+cellDown cell-call.StartRead = 0
+cellDown cell-call.EndRead = 1
+cellDown cell-call.StartWrite = 0
+cellDown cell-call.EndWrite = 0
 
-    -- an object is put
-    put-few : (m : ℕ) (v : World) (o : ObjectId) (e : Entry) → Few m v → N e ≤ m → All (λ k x. N x ≤ m) (newEntry noObject) (putEntry (v .objects) o e)
-    put-few m v o e h l = all-set (λ k x. N x ≤ m) (newEntry noObject) (v .objects) (o .0) e h l
+-- none does
+abbrev none : {A : Type 0} → A → ℕ
+none c = 0
 
-    -- an effect
-    effected : (m : ℕ) (v : World) (c : Call) (t : ThreadId) (o : ObjectId) (e : Entry) (ts : List Thread) → Few m v → N e ≤ m
-        → All (λ k x. N x ≤ suc m) (newEntry noObject) (putEntry (v .objects) o (effect c t o e ts .entry))
-    unfolding effect
-    effected m v c t o e ts h l = put-few (suc m) v o _ (few-more m (suc m) v (omega arith) h) (omega (arith, slow .effects c t o (threadAt ts t .clock) e, l))
+-- of any call: those of an Arc, a channel and a cell may count
+abbrev byKind : (ArcCall → ℕ) → (ChannelCall → ℕ) → (CellCall → ℕ) → Call → ℕ
+byKind f g h (Mutex c) = 0
+byKind f g h (RwLock c) = 0
+byKind f g h (Condvar c) = 0
+byKind f g h (Notify c) = 0
+byKind f g h (Channel c) = g c
+byKind f g h (Arc c) = f c
+byKind f g h (Cell c) = h c
 
-    -- through operations that need no announcement
-    passes : (t : ThreadId) → Passes t AnyOp Below (Mid t) (Few (b + maxOperations))
-    passes t =
-        record {
-          sees = λ m v op f i. omega (arith, i .0, i .1 (op .object .0), low);
-          shows = λ m v i. few-more _ _ v (omega arith) (i .1);
-          asks = λ m v i. few-more _ _ v (omega arith) (i .1);
-          ends = λ m v i. few-more _ _ v (omega arith) (i .1);
-          announces = λ m v op e f i. few-more _ _ v (omega arith) (i .1);
-          goes =
-              λ m v op f i.
-              (omega (arith, i .0), λ k. omega (arith, i .0, effected _ v (op .call) t (op .object) (entryIn v (op .object)) (v .threads) (i .1) (i .1 (op .object .0)) k));
-        }
+-- "ref_inc", "ref_dec", "send", "recv", "start_read", "end of read"
+abbrev pub incs : Call → ℕ
+incs = byKind arcUp none none
 
-    -- an announced operation with its access recorded, and after its effect
-    noted : (t : ThreadId) (op : Op) → N (recorded t op w) ≤ b
-    noted t op = omega (arith, slow .records (op .call) (accessed t op w) (entryIn w (op .object)), few (op .object .0))
+abbrev pub decs : Call → ℕ
+decs = byKind arcDown none none
 
-    after : (t : ThreadId) (op : Op) → Few (suc b) (inEffect t op w)
-    unfolding operate
-    after t op = effected b w (op .call) t (op .object) (recorded t op w) (dependent t op w) few (noted t op)
+abbrev pub sends : Call → ℕ
+sends = byKind none channelUp none
 
-    -- a wait that is queued frees its mutex
-    waited : (t : ThreadId) (m : ObjectId) (v : World) → Few (suc b) v → Few (suc (suc b)) (waiting t m v)
-    unfolding wait
-    waited t m v h = effected (suc b) v (Mutex mutex-call.ReleaseLock) t m (entryIn v m) (v .threads) h (h (m .0))
+abbrev pub receives : Call → ℕ
+receives = byKind none channelDown none
 
-    -- a turn
-    begins : (t : ThreadId) → Begins table w t AnyOp Below (Mid t) (Few (b + maxOperations))
-    begins t =
-        record {
-          passes = passes t;
-          nothing = λ e. (left-few table n w t, few-more _ _ w (omega (arith, left-few table n w t)) few);
-          effects = λ op. omega (arith, noted t op, low);
-          operates = λ op m e. (omega (arith, e, left-few table n w t), λ k. omega (arith, e, left-few table n w t, after t op k));
-          waits = λ op a m o e f. few-more _ _ (waiting t m (inEffect t op w)) (omega arith) (waited t m (inEffect t op w) (after t op));
-          retakes = λ m o e. few-more _ _ w (omega arith) few;
-        }
+abbrev pub readStarts : Call → ℕ
+readStarts = byKind none none cellUp
 
-    -- an answer to a question
-    answers : (t : ThreadId) → Answers table w t AnyOp (Few (b + maxOperations))
-    unfolding spurious
-    answers t =
-        record {
-          goes = λ op f. few-more _ _ w (omega arith) few;
-          wakes =
-              λ op.
-              put-few (b + maxOperations) w (op .object) _ (few-more _ _ w (omega arith) few)
-              (omega (arith, slow .spurs (entryIn w (op .object)) (notify.spur (entryIn w (op .object) .notify)), few (op .object .0)));
-        }
+abbrev pub readEnds : Call → ℕ
+readEnds = byKind none none cellDown
 
-    -- a decision takes it that much further at most
-    decide-few : (d : ℕ) (v : World) → step table w d ≡ outcome.wants v → Few (b + maxOperations) v
-    decide-few = wanted-passes table n w g AnyOp (any-left table w) tt Below Mid (Few (b + maxOperations)) (few-more _ _ w (omega arith) few) (λ t l. begins t) (λ t r. answers t)
-
-    -- and it is below its type's end before each effect
-    each-below : (d : ℕ) → Each Below table w d
-    each-below = decide-each table n w g AnyOp (any-left table w) tt Below Mid (Few (b + maxOperations)) (few-more _ _ w (omega arith) few) (λ t l. begins t) (λ t r. answers t)
-
-  -- u decisions take it so far at most
-  pub run-few : (bs list : List ℕ) (table : Table) (w : World) → readTable bs ≡ accepted table → Reached table list w → Few mostCount w
-  run-few bs list table w a e =
-      let h = read-within bs table a in
-      let r = run-by table (h .0) (λ u v. Few (1 + maxOperations * u) v)
-      (λ u v d x g l i s. few-more _ _ x (omega arith) (decide-few table (h .0) (1 + maxOperations * u) (omega (arith, l)) v g i d x s)) (h .1) (start-few table) list w e in
-      few-more _ _ w (omega (arith, r .1 .2)) (r .1 .1)
-
-  -- before each effect of a further decision
-  pub run-below : (bs list : List ℕ) (table : Table) (w : World) → readTable bs ≡ accepted table → Reached table list w → (d : ℕ) → Each Below table w d
-  run-below bs list table w a e d =
-      each-below table (read-within bs table a .0) mostCount (omega arith) w (reached-good bs list table w a e) (run-few bs list table w a e) d
-
--- the count of an Arc
+-- the counts
 abbrev pub arcCount : Entry → ℕ
 arcCount e = e .arc .«ref_cnt»
 
--- the readers of a cell
+abbrev pub messages : Entry → ℕ
+messages e = e .channel .«msg_cnt»
+
 abbrev pub readers : Entry → ℕ
 readers e = e .cell .«is_reading»
 
--- an operation on an Arc raises its count by one at most
-arc-raises : (c : ArcCall) (by : Clock) (s : ArcState) → arc.doing c by s .state .«ref_cnt» ≤ suc (s .«ref_cnt»)
+-- an Arc's operations
+arc-fair : (c : ArcCall) (by : Clock) (s : ArcState) → s .«ref_cnt» < 65535 → Fair (λ x. x .«ref_cnt») (s .«ref_cnt») (arcUp c) (arcDown c) (arc.doing c by s)
 unfolding arc.doing
-arc-raises arc-call.RefInc by s = omega arith
-arc-raises arc-call.RefDec by s = by-test (λ (d : Does ArcState). d .state .«ref_cnt» ≤ suc (s .«ref_cnt»)) (eqb (s .«ref_cnt») 0) (λ z. omega arith) (λ z. omega arith)
-arc-raises arc-call.GetMut by s = by-test (λ (d : Does ArcState). d .state .«ref_cnt» ≤ suc (s .«ref_cnt»)) (eqb (s .«ref_cnt») 0) (λ z. omega arith) (λ z. omega arith)
-arc-raises arc-call.StrongCount by s = by-test (λ (d : Does ArcState). d .state .«ref_cnt» ≤ suc (s .«ref_cnt»)) (eqb (s .«ref_cnt») 0) (λ z. omega arith) (λ z. omega arith)
+arc-fair arc-call.RefInc by s l = λ f. omega (arith, l)
+arc-fair arc-call.RefDec by s l =
+    by-test (Fair (λ x. x .«ref_cnt») (s .«ref_cnt») 0 1) (eqb (s .«ref_cnt») 0) (λ z f. fails-not ending.Misuse refl f) (λ z f. omega (arith, eqb-false (s .«ref_cnt») 0 z))
+arc-fair arc-call.GetMut by s l = by-test (Fair (λ x. x .«ref_cnt») (s .«ref_cnt») 0 0) (eqb (s .«ref_cnt») 0) (λ z f. refl) (λ z f. refl)
+arc-fair arc-call.StrongCount by s l = by-test (Fair (λ x. x .«ref_cnt») (s .«ref_cnt») 0 0) (eqb (s .«ref_cnt») 0) (λ z f. refl) (λ z f. refl)
 
--- an access to a cell that fails leaves the readers
-accessed-few : (misuse : Bool) (track : Ending) (s next : CellState) (xs : List Touch) → next .«is_reading» ≤ suc (s .«is_reading»)
-    → cell.accessing misuse track s next xs .state .«is_reading» ≤ suc (s .«is_reading»)
+-- a channel's
+channel-fair : (c : ChannelCall) (o : ObjectId) (by : Clock) (s : ChannelState) → Fair (λ x. x .«msg_cnt») (s .«msg_cnt») (channelUp c) (channelDown c) (mpsc.doing c o by s)
+unfolding mpsc.doing
+channel-fair mpsc-call.Send o by s = by-test (Fair (λ x. x .«msg_cnt») (s .«msg_cnt») 1 0) (ltb (s .«msg_cnt») maxMessages) (λ z f. omega arith) (λ z f. fails-not ending.NoRoom refl f)
+channel-fair mpsc-call.Recv o by s =
+    by-test (Fair (λ x. x .«msg_cnt») (s .«msg_cnt») 0 1) (mpsc.isEmpty s) (λ z f. fails-not ending.Misuse refl f) (λ z f. omega (arith, eqb-false (s .«msg_cnt») 0 z))
+
+-- a cell's
+accessed-fair : (misuse : Bool) (track : Ending) (s next : CellState) (xs : List Touch) (up down : ℕ) → (misuse ≡ false → next .«is_reading» + down ≡ s .«is_reading» + up)
+    → Fair (λ x. x .«is_reading») (s .«is_reading») up down (cell.accessing misuse track s next xs)
 unfolding cell.accessing
-accessed-few misuse track s next xs l =
-    by-test (λ (d : Does CellState). d .state .«is_reading» ≤ suc (s .«is_reading»)) misuse (λ m. omega arith)
-    (λ m. by-test (λ (d : Does CellState). d .state .«is_reading» ≤ suc (s .«is_reading»)) (isFine track) (λ f. l) (λ f. omega arith))
+accessed-fair misuse track s next xs up down h =
+    by-test (Fair (λ x. x .«is_reading») (s .«is_reading») up down) misuse (λ m f. fails-not ending.Misuse refl f)
+    (λ m. by-test (Fair (λ x. x .«is_reading») (s .«is_reading») up down) (isFine track) (λ z f. h m) (λ z f. fails-not track z f))
 
--- an operation on a cell raises them by one at most
-cell-raises : (c : CellCall) (a : ThreadId) (by : Clock) (s : CellState) → cell.doing c a by s .state .«is_reading» ≤ suc (s .«is_reading»)
+-- an end of a read that is no misuse finds a reader
+reading-some : (n : ℕ) (w : Bool) → (not (not (eqb n 0)) || w) ≡ false → 0 < n
+reading-some n w e = go (eqb n 0) refl e
+  where
+    go : (b : Bool) → eqb n 0 ≡ b → (not (not b) || w) ≡ false → 0 < n
+    go true q f = absurd (false≢true (sym f))
+    go false q f = omega (arith, eqb-false n 0 q)
+
+cell-fair : (c : CellCall) (a : ThreadId) (by : Clock) (s : CellState) → s .«is_reading» < 65535 → Fair (λ x. x .«is_reading») (s .«is_reading») (cellUp c) (cellDown c) (cell.doing c a by s)
 unfolding cell.doing
-cell-raises cell-call.StartRead a by s = accessed-few _ _ s _ _ (omega arith)
-cell-raises cell-call.EndRead a by s = accessed-few _ _ s _ _ (omega arith)
-cell-raises cell-call.StartWrite a by s = accessed-few _ _ s _ _ (omega arith)
-cell-raises cell-call.EndWrite a by s = accessed-few _ _ s _ _ (omega arith)
+cell-fair cell-call.StartRead a by s l = accessed-fair _ _ s _ _ 1 0 (λ m. omega (arith, l))
+cell-fair cell-call.EndRead a by s l = accessed-fair _ _ s _ _ 0 1 (λ m. omega (arith, reading-some (s .«is_reading») (s .«is_writing») m))
+cell-fair cell-call.StartWrite a by s l = accessed-fair _ _ s _ _ 0 0 (λ m. refl)
+cell-fair cell-call.EndWrite a by s l = accessed-fair _ _ s _ _ 0 0 (λ m. refl)
 
--- so every operation
-raises-few : (c : Call) (a : ThreadId) (o : ObjectId) (by : Clock) (e : Entry)
-    → (arcCount (doing c a o by e .state) ≤ suc (arcCount e)) × (readers (doing c a o by e .state) ≤ suc (readers e))
+-- so every operation, for each of the three
+abbrev FairTo : (Entry → ℕ) → (Call → ℕ) → (Call → ℕ) → Call → Entry → Does Entry → Type 0
+FairTo N up down c e d = N e < 65535 → Fair N (N e) (up c) (down c) d
+
+all-fair : (c : Call) (a : ThreadId) (o : ObjectId) (by : Clock) (e : Entry) → FairTo arcCount incs decs c e (doing c a o by e) × FairTo messages sends receives c e (doing c a o by e)
+    × FairTo readers readStarts readEnds c e (doing c a o by e)
 unfolding doing
-raises-few (Mutex c) a o by e = (omega arith, omega arith)
-raises-few (RwLock c) a o by e = (omega arith, omega arith)
-raises-few (Condvar c) a o by e = (omega arith, omega arith)
-raises-few (Notify c) a o by e = (omega arith, omega arith)
-raises-few (Channel c) a o by e = (omega arith, omega arith)
-raises-few (Arc c) a o by e = (arc-raises c by (e .arc), omega arith)
-raises-few (Cell c) a o by e = (omega arith, cell-raises c a by (e .cell))
+all-fair (Mutex c) a o by e = (λ l f. refl, λ l f. refl, λ l f. refl)
+all-fair (RwLock c) a o by e = (λ l f. refl, λ l f. refl, λ l f. refl)
+all-fair (Condvar c) a o by e = (λ l f. refl, λ l f. refl, λ l f. refl)
+all-fair (Notify c) a o by e = (λ l f. refl, λ l f. refl, λ l f. refl)
+all-fair (Channel c) a o by e = (λ l f. refl, λ l. channel-fair c o by (e .channel), λ l f. refl)
+all-fair (Arc c) a o by e = (arc-fair c by (e .arc), λ l f. refl, λ l f. refl)
+all-fair (Cell c) a o by e = (λ l f. refl, λ l f. refl, cell-fair c a by (e .cell))
 
--- a recorded access leaves both
-arc-recorded : (a : ArcAction) (x : Access) (s : ArcState) → arc.setLastAccess a x s .«ref_cnt» ≡ s .«ref_cnt»
-arc-recorded arc-action.RefInc x s = refl
-arc-recorded arc-action.RefDec x s = refl
-arc-recorded arc-action.Inspect x s = refl
-
-records-same : (c : Call) (x : Access) (e : Entry) → (arcCount (setLastAccess c x e) ≡ arcCount e) × (readers (setLastAccess c x e) ≡ readers e)
+-- a recorded access leaves them
+records-same : (c : Call) (x : Access) (e : Entry) → (arcCount (setLastAccess c x e) ≡ arcCount e) × (messages (setLastAccess c x e) ≡ messages e) × (readers (setLastAccess c x e) ≡ readers e)
 unfolding setLastAccess
-records-same (Mutex c) x e = (refl, refl)
-records-same (RwLock c) x e = (refl, refl)
-records-same (Condvar c) x e = (refl, refl)
-records-same (Notify c) x e = (refl, refl)
-records-same (Channel c) x e = (refl, refl)
-records-same (Arc c) x e = (arc-recorded (arc.actionOf c) x (e .arc), refl)
-records-same (Cell c) x e = (refl, refl)
+records-same (Mutex c) x e = (refl, refl, refl)
+records-same (RwLock c) x e = (refl, refl, refl)
+records-same (Condvar c) x e = (refl, refl, refl)
+records-same (Notify c) x e = (refl, refl, refl)
+records-same (Channel mpsc-call.Send) x e = (refl, refl, refl)
+records-same (Channel mpsc-call.Recv) x e = (refl, refl, refl)
+records-same (Arc arc-call.RefInc) x e = (refl, refl, refl)
+records-same (Arc arc-call.RefDec) x e = (refl, refl, refl)
+records-same (Arc arc-call.GetMut) x e = (refl, refl, refl)
+records-same (Arc arc-call.StrongCount) x e = (refl, refl, refl)
+records-same (Cell c) x e = (refl, refl, refl)
 
--- an Arc's count rises slowly
-arc-slow : Slow arcCount
+-- one at most
+arc-small : (c : ArcCall) → arcUp c ≤ 1
+arc-small arc-call.RefInc = omega arith
+arc-small arc-call.RefDec = omega arith
+arc-small arc-call.GetMut = omega arith
+arc-small arc-call.StrongCount = omega arith
+
+channel-small : (c : ChannelCall) → channelUp c ≤ 1
+channel-small mpsc-call.Send = omega arith
+channel-small mpsc-call.Recv = omega arith
+
+cell-small : (c : CellCall) → cellUp c ≤ 1
+cell-small cell-call.StartRead = omega arith
+cell-small cell-call.EndRead = omega arith
+cell-small cell-call.StartWrite = omega arith
+cell-small cell-call.EndWrite = omega arith
+
+none-small : {A : Type 0} (c : A) → none c ≤ 1
+none-small c = omega arith
+
+module _ (f : ArcCall → ℕ) (g : ChannelCall → ℕ) (h : CellCall → ℕ) where
+  small : ((c : ArcCall) → f c ≤ 1) → ((c : ChannelCall) → g c ≤ 1) → ((c : CellCall) → h c ≤ 1) → (c : Call) → byKind f g h c ≤ 1
+  small p q r (Mutex c) = omega arith
+  small p q r (RwLock c) = omega arith
+  small p q r (Condvar c) = omega arith
+  small p q r (Notify c) = omega arith
+  small p q r (Channel c) = q c
+  small p q r (Arc c) = p c
+  small p q r (Cell c) = r c
+
+  -- an operation that counts neither waits nor asks
+  waits-none : (c : Call) (m : ObjectId) → waitOf c ≡ On m → byKind f g h c ≡ 0
+  waits-none (Mutex c) m e = refl
+  waits-none (RwLock c) m e = refl
+  waits-none (Condvar c) m e = refl
+  waits-none (Notify c) m e = refl
+  waits-none (Channel c) m e = let q : _≡_ {A = ℕ} 0 1 = cc in absurd (omega (arith, q))
+  waits-none (Arc c) m e = let q : _≡_ {A = ℕ} 0 1 = cc in absurd (omega (arith, q))
+  waits-none (Cell c) m e = let q : _≡_ {A = ℕ} 0 1 = cc in absurd (omega (arith, q))
+
+  asks-none : (c : Call) (e : Entry) → asks c e ≡ true → byKind f g h c ≡ 0
+  unfolding asks
+  asks-none (Mutex c) x e = refl
+  asks-none (RwLock c) x e = refl
+  asks-none (Condvar c) x e = refl
+  asks-none (Notify c) x e = refl
+  asks-none (Channel c) x e = absurd (false≢true e)
+  asks-none (Arc c) x e = absurd (false≢true e)
+  asks-none (Cell c) x e = absurd (false≢true e)
+
+-- a count whose operations are these, `f`, `g` and `h` up and `i`, `j` and `k` down
+module _ (N : Entry → ℕ) (first : ℕ) (f i : ArcCall → ℕ) (g j : ChannelCall → ℕ) (h k : CellCall → ℕ) where
+  counted-by : first ≤ 1 → ((c : Call) → byKind f g h c ≤ 1) → ((m : Made) → N (newEntry m) ≡ first)
+      → ((c : Call) (a : ThreadId) (o : ObjectId) (by : Clock) (e : Entry) → FairTo N (byKind f g h) (byKind i j k) c e (doing c a o by e)) → ((c : Call) (x : Access) (e : Entry) → N (setLastAccess c x e) ≡ N e)
+      → ((e : Entry) (s : NotifyState) → N (putNotify e s) ≡ N e) → Counted N first (byKind f g h) (byKind i j k)
+  counted-by starts few made effects records spurs =
+      record {
+        starts = starts;
+        small = few;
+        made = made;
+        effects = effects;
+        records = records;
+        spurs = spurs;
+        locks = λ c. (refl, refl);
+        waits = λ c m e. (waits-none f g h c m e, waits-none i j k c m e);
+        questions = λ c x e. (asks-none f g h c x e, asks-none i j k c x e);
+      }
+
+-- the three
+pub arc-counted : Counted arcCount 1 incs decs
 unfolding newEntry
-arc-slow = record { made = λ m. omega arith; effects = λ c a o by e. raises-few c a o by e .0; records = λ c x e. records-same c x e .0; spurs = λ e s. refl }
+arc-counted =
+    counted-by arcCount 1 arcUp arcDown none none none none (omega arith) (small arcUp none none arc-small none-small none-small) (λ m. refl) (λ c a o by e. all-fair c a o by e .0)
+    (λ c x e. records-same c x e .0) (λ e s. refl)
 
--- a cell's readers do
-cell-slow : Slow readers
+pub channel-counted : Counted messages 0 sends receives
 unfolding newEntry
-cell-slow = record { made = λ m. omega arith; effects = λ c a o by e. raises-few c a o by e .1; records = λ c x e. records-same c x e .1; spurs = λ e s. refl }
+channel-counted =
+    counted-by messages 0 none none channelUp channelDown none none (omega arith) (small none channelUp none none-small channel-small none-small) (λ m. refl) (λ c a o by e. all-fair c a o by e .1)
+    (λ c x e. records-same c x e .1) (λ e s. refl)
 
--- in every world that a run of an accepted table reaches, and before each effect of a further decision, every Arc's count is below its type's end
-pub arc-few : (bs list : List ℕ) (table : Table) (w : World) → readTable bs ≡ accepted table → Reached table list w → (o : ObjectId) → entryIn w o .arc .«ref_cnt» ≤ mostCount
-arc-few bs list table w a e o = run-few arcCount arc-slow bs list table w a e (o .0)
+pub cell-counted : Counted readers 0 readStarts readEnds
+unfolding newEntry
+cell-counted =
+    counted-by readers 0 none none none none cellUp cellDown (omega arith) (small none none cellUp none-small none-small cell-small) (λ m. refl) (λ c a o by e. all-fair c a o by e .2)
+    (λ c x e. records-same c x e .2) (λ e s. refl)
 
--- the same before each effect
-pub arc-below : (bs list : List ℕ) (table : Table) (w : World) → readTable bs ≡ accepted table → Reached table list w
-    → (d : ℕ) → Each (λ t c e ts. e .arc .«ref_cnt» < 65535) table w d
-arc-below bs list table w a e d = run-below arcCount arc-slow bs list table w a e d
+-- in every world that the sheet of an accepted table shows
+module _ (bs list : List ℕ) (table : Table) (w : World) (a : readTable bs ≡ accepted table) (e : Shown table list w) where
+  -- "Sent less received equals the count."
+  pub sent-received : (o : ObjectId) → entryIn w o .channel .«msg_cnt» + doneOf table receives (o .0) (w .threads) ≡ doneOf table sends (o .0) (w .threads)
+  sent-received o = omega (arith, counts messages 0 sends receives channel-counted bs list table w a e .law (o .0))
 
--- and so are every cell's readers
-pub readers-few : (bs list : List ℕ) (table : Table) (w : World) → readTable bs ≡ accepted table → Reached table list w → (o : ObjectId) → entryIn w o .cell .«is_reading» ≤ mostCount
-readers-few bs list table w a e o = run-few readers cell-slow bs list table w a e (o .0)
+  -- an Arc's count is 1 and the ref_incs less the ref_decs done
+  pub arc-count : (o : ObjectId) → entryIn w o .arc .«ref_cnt» + doneOf table decs (o .0) (w .threads) ≡ 1 + doneOf table incs (o .0) (w .threads)
+  arc-count o = counts arcCount 1 incs decs arc-counted bs list table w a e .law (o .0)
 
--- the same before each effect
-pub readers-below : (bs list : List ℕ) (table : Table) (w : World) → readTable bs ≡ accepted table → Reached table list w
-    → (d : ℕ) → Each (λ t c e ts. e .cell .«is_reading» < 65535) table w d
-readers-below bs list table w a e d = run-below readers cell-slow bs list table w a e d
+  -- a cell's reading count is the starts less the ends of reads done
+  pub reading-count : (o : ObjectId) → entryIn w o .cell .«is_reading» + doneOf table readEnds (o .0) (w .threads) ≡ doneOf table readStarts (o .0) (w .threads)
+  reading-count o = omega (arith, counts readers 0 readStarts readEnds cell-counted bs list table w a e .law (o .0))
+
+  -- so they are at most these
+  pub arc-most : (o : ObjectId) → entryIn w o .arc .«ref_cnt» ≤ 193
+  arc-most o = count-most arcCount 1 incs decs arc-counted bs list table w a e o
+
+  pub reading-most : (o : ObjectId) → entryIn w o .cell .«is_reading» ≤ 192
+  reading-most o = count-most readers 0 readStarts readEnds cell-counted bs list table w a e o
+
+-- before each effect of a further decision
+module _ (bs list : List ℕ) (table : Table) (w : World) (a : readTable bs ≡ accepted table) (e : Reached table list w) where
+  pub arc-below : (d : ℕ) → Each (λ t c x ts. x .arc .«ref_cnt» < 193) table w d
+  arc-below d = count-below arcCount 1 incs decs arc-counted bs list table w a e d
+
+  pub reading-below : (d : ℕ) → Each (λ t c x ts. x .cell .«is_reading» < 192) table w d
+  reading-below d = count-below readers 0 readStarts readEnds cell-counted bs list table w a e d

@@ -20,11 +20,11 @@ use Rattle.rules.specs.declared.table.Table.{Table}
 use Rattle.rules.specs.declared.world.Asked.{Asked}
 use Rattle.rules.specs.declared.world.Asked.the-variants as asked
 use Rattle.rules.specs.declared.world.World.{World}
-use Rattle.rules.specs.Limits.{maxOperations}
+use Rattle.rules.specs.Limits.{maxOperations, maxList}
 use Rattle.rules.specs.Ground.{absent}
 use Rattle.rules.specs.Effect.{waitOf}
-use Rattle.rules.specs.Table.{opsOf, noOp}
-use Rattle.rules.specs.TableLaws.{by-test, Within}
+use Rattle.rules.specs.Table.{accepted, readTable, opsOf, noOp}
+use Rattle.rules.specs.TableLaws.{by-test, Within, read-within}
 use Rattle.rules.specs.Turn.{threadIn, startThread, start}
 use Rattle.rules.specs.Judge.{Verdict, step}
 use Rattle.rules.specs.Walk.{leftIn, askedOf, left}
@@ -106,5 +106,11 @@ pub start-left : (table : Table) → Within table → left table (start table) �
 unfolding start
 start-left table w = omega (arith, left-sum table (start table), start-total table w (table .«thread_count») 0 maxThreads)
 
-pub list-length : (table : Table) → Within table → 0 < table .«thread_count» → (list : List ℕ) → Complete table list → length list ≤ 97 * table .«thread_count»
-list-length table w some list c = omega (arith, complete-left table w list (start table) (start-good table w some) c, start-left table w)
+pub list-length : (bs : List ℕ) (table : Table) → readTable bs ≡ accepted table → (list : List ℕ) → Complete table list → length list ≤ 97 * table .«thread_count»
+list-length bs table e list c =
+    let h = read-within bs table e in
+    omega (arith, complete-left table (h .0) list (start table) (start-good table (h .0) (h .1)) c, start-left table (h .0))
+
+-- so a buffer of 582 bytes has room for it
+pub list-fits : (bs : List ℕ) (table : Table) → readTable bs ≡ accepted table → (list : List ℕ) → Complete table list → length list ≤ maxList
+list-fits bs table e list c = omega (arith, list-length bs table e list c, read-within bs table e .0 .threads)

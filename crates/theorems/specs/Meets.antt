@@ -1,13 +1,11 @@
 -- Demand 3: what document 01's "first" and "next" find is what the demand asks for, over the lists that are complete under the step rules.
 use mathlib.Core.Path.{_≡_, refl, sym, _∙_, ap, subst}
 use mathlib.Core.List.{List}
-use Prim.Native.Nat.{ℕ, suc, _≤_, _<_}
+use Prim.Native.Nat.{ℕ, _<_}
 use lib.Dec.{T}
-use lib.ListN.{length}
 use Rattle.lists.specs.Judge.{Judged, notAllowed, surplus, unfinished, verdict, isVerdict, judge, judge-complete}
 use Rattle.lists.specs.Rules as lists
 use Rattle.lists.specs.Next as next
-use Rattle.lists.specs.Walk as walk
 use Rattle.rules.specs.declared.table.Table.{Table}
 use Rattle.rules.specs.declared.world.World.{World}
 use Rattle.rules.specs.Table.{Read, refused, accepted, readTable}
@@ -29,16 +27,6 @@ module _ (table : Table) (w : Within table) (some : 0 < table .«thread_count»)
 
   pub next-is : (list : List ℕ) → Complete table list → lists.Answers (step table) (start table) list (next.nextOf (step table) decisions (left table) (start table) list)
   next-is list c = next.next-answers (step table) decisions (left table) (Good table) (bounded table w) (some-allowed table w) (keeps table w) (falls table w) (start table) list good c
-
-  -- every complete list is met, starting with "first" and going on with "next"
-  pub reached : (list : List ℕ) → Complete table list
-      → walk.Reached (next.firstOf (step table) decisions (left table) (start table)) (next.nextOf (step table) decisions (left table) (start table)) list
-  reached list c = walk.all-reached (step table) decisions (left table) (Good table) (bounded table w) (some-allowed table w) (keeps table w) (falls table w) (start table) list good c
-
-  -- and the walk of "first" and "next" meets every complete list once, if it is let go on for long enough
-  pub met-once : (n : ℕ) (list : List ℕ) → length (walk.tree (step table) decisions (suc (left table (start table))) (start table)) ≤ n → Complete table list
-      → walk.times list (walk.walk (step table) decisions (left table) n (start table)) ≡ 1
-  met-once n list l c = walk.walk-once (step table) decisions (left table) (Good table) (bounded table w) (some-allowed table w) (keeps table w) (falls table w) n (start table) list good l c
 
 -- a list whose judgement is a verdict is complete
 pub complete-told : (t : Table) (list : List ℕ) (v : Verdict) → judge (step t) 0 (start t) list ≡ verdict v → Complete t list

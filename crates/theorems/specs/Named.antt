@@ -63,7 +63,7 @@ mutex-there ms Nowhere l e = tt
 mutex-there ms (On m) l e = kind-there ms m kind.Mutex l (omega arith) e
 
 -- both halves of an and
-both : (a b : Bool) → (a && b) ≡ true → (a ≡ true) × (b ≡ true)
+pub both : (a b : Bool) → (a && b) ≡ true → (a ≡ true) × (b ≡ true)
 both true b e = (refl, e)
 both false b e = absurd (false≢true e)
 

@@ -31,7 +31,7 @@ use Rattle.rules.specs.SheetLaws.{sheet-small}
 use Rattle.rules.specs.Walk.{decisions, left, handOver, firstTable, firstOf, nextList, nextJudged, nextTable, nextOf}
 use Rattle.theorems.specs.Falling.{Good}
 use Rattle.theorems.specs.Machine.{keeps, falls}
-use Rattle.theorems.specs.Length.{start-left, list-length}
+use Rattle.theorems.specs.Length.{start-left, list-fits}
 use Rattle.theorems.specs.Accepted.{start-good}
 use Rattle.theorems.specs.Meets.{first-is, next-is, complete-told}
 
@@ -170,26 +170,28 @@ first-place bs buffer = go (readTable bs) refl
     go (refused a) e = omega (arith, refused-place bs a e)
     go (accepted t) e =
         let h = read-within bs t e in
-        hand-place _ buffer (omega (arith, list-length t (h .0) (h .1) _ (first-is t (h .0) (h .1) .whole), h .0 .threads))
+        hand-place _ buffer (list-fits bs t e _ (first-is t (h .0) (h .1) .whole))
 
 pub next-place : (bs list buffer : List ℕ) → place (nextOf bs list buffer .answer) ≤ maxSheet
 unfolding nextOf nextTable nextJudged nextList numbersOf
 next-place bs list buffer = go (readTable bs) refl
   where
-    found : (t : Table) → Within t → 0 < t .«thread_count» → (o : Option (List ℕ)) → Answers (step t) (start t) list o → place (nextList o buffer .answer) ≤ maxSheet
-    found t w some option.none a = omega arith
-    found t w some (option.some m) a = hand-place m buffer (omega (arith, list-length t w some m (a .whole), w .threads))
+    found : (t : Table) → readTable bs ≡ accepted t → (o : Option (List ℕ)) → Answers (step t) (start t) list o → place (nextList o buffer .answer) ≤ maxSheet
+    found t e option.none a = omega arith
+    found t e (option.some m) a = hand-place m buffer (list-fits bs t e m (a .whole))
 
-    by-list : (t : Table) → Within t → 0 < t .«thread_count» → (j : Judged World Verdict) → judge (step t) 0 (start t) list ≡ j → placeOf j ≤ maxList + 1
+    by-list : (t : Table) → readTable bs ≡ accepted t → (j : Judged World Verdict) → judge (step t) 0 (start t) list ≡ j → placeOf j ≤ maxList + 1
         → place (nextJudged j (next.nextOf (step t) decisions (left t) (start t) list) buffer .answer) ≤ maxSheet
-    by-list t w some (notAllowed i) q h = omega (arith, h)
-    by-list t w some (surplus i) q h = omega (arith, h)
-    by-list t w some (unfinished v) q h = omega arith
-    by-list t w some (verdict v) q h = found t w some (next.nextOf (step t) decisions (left t) (start t) list) (next-is t w some list (complete-told t list v q))
+    by-list t e (notAllowed i) q h = omega (arith, h)
+    by-list t e (surplus i) q h = omega (arith, h)
+    by-list t e (unfinished v) q h = omega arith
+    by-list t e (verdict v) q h =
+        let n = read-within bs t e in
+        found t e (next.nextOf (step t) decisions (left t) (start t) list) (next-is t (n .0) (n .1) list (complete-told t list v q))
 
     go : (r : Read) → readTable bs ≡ r → place (nextTable r list buffer .answer) ≤ maxSheet
     go (refused a) e = omega (arith, refused-place bs a e)
     go (accepted t) e =
         let h = read-within bs t e in
         let j = judged-place t (h .0) list 0 (start t) (start-good t (h .0) (h .1)) in
-        by-list t (h .0) (h .1) (judge (step t) 0 (start t) list) refl (omega (arith, j, start-left t (h .0), h .0 .threads))
+        by-list t e (judge (step t) 0 (start t) list) refl (omega (arith, j, start-left t (h .0), h .0 .threads))

@@ -2,10 +2,11 @@
 use mathlib.Core.Path.{_≡_, refl, _∙_}
 use mathlib.Core.Bool.{Bool, true, false}
 use mathlib.Core.List.{List, [], _∷_}
-use Prim.Native.Nat.{ℕ}
-use lib.Dec.{eqb}
-use lib.ListN.{length, length-set}
-use Rattle.clocks.specs.Clock.{joinOf, incOf}
+use Prim.Native.Nat.{ℕ, _<_}
+use lib.Dec.{eqb, ltb}
+use lib.ListN.{length, length-set, replicate}
+use borrow.Author.Tests.{ltb-true}
+use Rattle.clocks.specs.Clock.{maxThreads, joinOf, incOf}
 use Rattle.clocks.specs.Pass.{pass-length}
 use Rattle.clocks.specs.declared.clock.Clock.{Clock}
 use Rattle.clocks.specs.declared.thread.ThreadId.{ThreadId}
@@ -19,11 +20,13 @@ use Rattle.rules.specs.declared.thread.Answered.the-variants.{Kept, Left}
 use Rattle.rules.specs.declared.thread.Change.{Change}
 use Rattle.rules.specs.declared.thread.Change.the-variants.{Wake, Block, BlockWriters, BlockReceivers, Unpark}
 use Rattle.rules.specs.declared.table.Call.{Call}
+use Rattle.rules.specs.declared.table.Table.{Table}
 use Rattle.rules.specs.Ground.{withState, withClock, withAnswer, absent, threadAt, putThread, loaded, unparkState, unpark, unparkThread, isEnded, isOn, isWrite, isRecv, actionOf, blockedIf, changed, changedAt, others, answering, Touch, loads, passes, unparks, raises, touch, touched}
 use Rattle.rules.specs.TableLaws.{by-test}
 use Rattle.rules.specs.TouchLaws.{touched-read}
 use Rattle.rules.specs.Effect.{doing, effect}
-use Rattle.theorems.specs.All.{All, all-set, all-pass}
+use Rattle.rules.specs.Turn.{startThread, start}
+use Rattle.theorems.specs.All.{All, all-set, all-pass, all-same}
 
 -- n threads, with `P` of each by its number
 abbrev pub Hold : ℕ → (ℕ → Thread → Type 0) → List Thread → Type 0
@@ -48,6 +51,16 @@ Brings B C a (raises ∷ xs) = ((c : Clock) → B c → C (incOf c a)) × Brings
 -- a thread is put
 pub put-holds : (n : ℕ) (P : ℕ → Thread → Type 0) (t : ThreadId) (ts : List Thread) (x : Thread) → Hold n P ts → P (t .0) x → Hold n P (putThread ts t x)
 put-holds n P t ts x h p = (length-set ts (t .0) x ∙ h .0, all-set P absent ts (t .0) x (h .1) p)
+
+-- the threads that a table starts with: those that it has are runnable
+pub start-holds : (P : ℕ → Thread → Type 0) (table : Table) → ((k : ℕ) → P k absent) → ((k : ℕ) (x : Thread) → k < table .«thread_count» → P k x → P k (withState x state.Runnable))
+    → Hold maxThreads P (start table .threads)
+unfolding start startThread
+start-holds P table first on = (
+  pass-length (startThread (table .«thread_count»)) 0 (replicate maxThreads absent),
+  all-pass P absent (startThread (table .«thread_count»)) (replicate maxThreads absent)
+      (λ k x h. by-test (P k) (ltb k (table .«thread_count»)) (λ z. on k x (ltb-true k (table .«thread_count») z) h) (λ z. h)) (λ k. all-same (P k) absent (first k) maxThreads k),
+)
 
 module _ (n : ℕ) (C : Clock → Type 0) (P : ℕ → Thread → Type 0) (b : Bears C P) (a : ThreadId) where
   -- one thread: another clock joined, unparked, blocked or not

@@ -1,6 +1,9 @@
 // What a thread may do next, and the object that it is about. The steps themselves are in `turns_quiet` and `turns_loud`.
 ghost use mathlib.Core.Path.{_≡_};
+ghost use Prim.Native.Nat.{_-_};
+ghost use Rattle.lists.specs.Greedy.{seek};
 ghost use Rattle.rules.specs.Turn.{mutexOf, isAllowed};
+ghost use Rattle.rules.specs.Walk.{decisions};
 ghost use Rattle.turns_steps.specs.Quiet.{who, isBegun, subjectIn, placeIn, allowedIn};
 ghost use Rattle.turns_steps.specs.Step.{firstSubject, placeAt, chosen};
 use clocks::THREADS;
@@ -152,10 +155,24 @@ pub fn chosen(asked: Asked, d: u8) -> Move
 }
 
 // Whether a decision is allowed, by the state of the thread that it names.
-pub fn is_allowed(asked: Asked, threads: [Thread; THREADS], d: u8) -> bool
+fn is_allowed(asked: Asked, threads: [Thread; THREADS], d: u8) -> bool
     ensures { λ r. ⌜ r ≡ isAllowed asked threads d ⌝ }
 {
     let x = get(threads, ThreadId(d));
     let state = x.state;
     allowed_in(asked, state, d)
+}
+
+// The least allowed decision that is `from` or more; THREADS or more if there is none.
+pub fn least(asked: Asked, threads: [Thread; THREADS], from: usize) -> usize
+    ensures { λ r. ⌜ r ≡ seek (isAllowed asked threads) (decisions - from) from ⌝ }
+{
+    let mut d = from;
+    while d < THREADS {
+        if is_allowed(asked, threads, d as u8) {
+            return d;
+        }
+        d += 1;
+    }
+    d
 }

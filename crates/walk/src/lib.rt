@@ -1,27 +1,23 @@
 // Every run of a table, in order: the smallest complete list, and the smallest one above another.
 ghost use mathlib.Core.Path.{_≡_};
 ghost use mathlib.Core.List.{_++_};
-ghost use Prim.Native.Nat.{_-_, _≤_};
+ghost use Prim.Native.Nat.{_≤_};
 ghost use lib.ListN.{length, take, drop};
-ghost use Rattle.lists.specs.Greedy.{seek};
-ghost use Rattle.rules.specs.Turn.{isAllowed};
 ghost use Rattle.rules.specs.Judge.{step};
 ghost use Rattle.rules.specs.Table.{accepted};
-ghost use Rattle.rules.specs.Walk.{decisions, handOver, firstTable, firstOf, nextTable, nextOf};
+ghost use Rattle.rules.specs.Walk.{handOver, firstTable, firstOf, nextTable, nextOf};
 ghost use Rattle.walk.specs.Says.{isOver, stageOf, Extends, Advances, Completable, Continues, Completes, Marked, Started, PassSays, Raisable, raisedTo};
 use clocks::THREADS;
 use rules::answer::Answer;
 use rules::table::LIST;
 use rules::table::Table;
 use rules::table::Taken;
-use rules::thread::Thread;
-use rules::world::Asked;
 use rules::world::World;
 use turns::start;
 use turns_run::End;
 use turns_run::Ran;
 use turns_run::run;
-use turns_steps::is_allowed;
+use turns_steps::least;
 use turns_table::read_table;
 
 // A completion on its way: the table, the world where it stands, and its list so far, the first `at` bytes.
@@ -57,20 +53,6 @@ fn decide(table: Table, world: World, d: u8) -> Ran
 {
     let list = [d];
     run(table, world, &list)
-}
-
-// The least allowed decision that is `from` or more; THREADS or more if there is none.
-fn least(asked: Asked, threads: [Thread; THREADS], from: usize) -> usize
-    ensures { λ r. ⌜ r ≡ seek (isAllowed asked threads) (decisions - from) from ⌝ }
-{
-    let mut d = from;
-    while d < THREADS {
-        if is_allowed(asked, threads, d as u8) {
-            return d;
-        }
-        d += 1;
-    }
-    d
 }
 
 fn is_over(end: End) -> bool

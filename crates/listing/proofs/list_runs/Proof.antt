@@ -14,32 +14,26 @@ read-input-requires c κs = search needs
 array-share-prefix-table : tie.Need-array-share-prefix-table
 array-share-prefix-table c = search needs
 
-slice-aggregate-first : tie.Need-slice-aggregate-first
-slice-aggregate-first c = sym (length-take-le _ _ (array-share-prefix-table (c .before)))
+slice-aggregate-read-table : tie.Need-slice-aggregate-read-table
+slice-aggregate-read-table c = sym (length-take-le _ _ (array-share-prefix-table (c .before)))
 
-slice-aggregate-first-2 : tie.Need-slice-aggregate-first-2
-slice-aggregate-first-2 c = search needs
+read-table-requires : tie.Need-read-table-requires
+read-table-requires c κs = search needs
 
-first-requires : tie.Need-first-requires
-first-requires c κs = search needs
+enum-known-taken : tie.Need-enum-known-taken
+enum-known-taken c = search needs
 
-enum-known-a : tie.Need-enum-known-a
-enum-known-a c = search needs
+enum-told : tie.Need-enum-told
+enum-told c = search needs
 
-say-refused-requires : tie.Need-say-refused-requires
-say-refused-requires c κs = search needs
+go-through-requires : tie.Need-go-through-requires
+go-through-requires c κs = search needs
 
 returns : tie.Need-returns
 returns c = search needs
 
-array-share-prefix-table-2 : tie.Need-array-share-prefix-table-2
-array-share-prefix-table-2 c = search needs
-
-slice-aggregate-go-through : tie.Need-slice-aggregate-go-through
-slice-aggregate-go-through c = sym (length-take-le _ _ (array-share-prefix-table-2 (c .before)))
-
-go-through-requires : tie.Need-go-through-requires
-go-through-requires c κs = search needs
+say-refused-requires : tie.Need-say-refused-requires
+say-refused-requires c κs = search needs
 
 returns-2 : tie.Need-returns-2
 returns-2 c = search needs
@@ -51,13 +45,11 @@ list-runs-spec =
     slice-aggregate-read-input
     read-input-requires
     array-share-prefix-table
-    slice-aggregate-first
-    slice-aggregate-first-2
-    first-requires
-    enum-known-a
-    say-refused-requires
-    returns
-    array-share-prefix-table-2
-    slice-aggregate-go-through
+    slice-aggregate-read-table
+    read-table-requires
+    enum-known-taken
+    enum-told
     go-through-requires
+    returns
+    say-refused-requires
     returns-2)

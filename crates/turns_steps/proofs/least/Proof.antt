@@ -1,4 +1,4 @@
--- `walk::least` meets its contract. The loop's invariant: what is sought from `from` is what is sought from `d`.
+-- `least` meets its contract. The loop's invariant: what is sought from `from` is what is sought from `d`.
 use mathlib.Core.Path.{_≡_, refl, sym, _∙_}
 use Prim.Native.Nat.{_-_}
 use borrow.Author.Needs.{needs}
@@ -6,8 +6,8 @@ use Rattle.lists.specs.Greedy.{seek}
 use Rattle.lists.specs.Code.{seek-end, seek-hit, seek-miss}
 use Rattle.rules.specs.Turn.{isAllowed}
 use Rattle.rules.specs.Walk.{decisions}
-use Rattle.walk.proofs.least.Statement.{statement}
-use Rattle.walk.proofs.least.Tie as tie
+use Rattle.turns_steps.proofs.least.Statement.{statement}
+use Rattle.turns_steps.proofs.least.Tie as tie
 
 abbrev Inv-loop : tie.InvT-loop
 Inv-loop asked threads from d₀ d = seek (isAllowed asked threads) (decisions - from) from ≡ seek (isAllowed asked threads) (decisions - d) d

@@ -1,0 +1,5 @@
+pub mod Walking
+pub mod Steps
+pub mod Way
+pub mod Ends
+pub mod Stands
