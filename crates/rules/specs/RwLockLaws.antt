@@ -1,10 +1,9 @@
 -- The laws of the readers' mask: "readers are a set".
---     room, wider          a bit that is not in a mask fits under a bound that has room for it, as has any larger power
 --     entered-fits         a reader that enters leaves the mask below any bound that has room for every thread's bit
 --     member-bit           a reader's bit is in the mask
 --     entered-self, entered-other, left-self, left-other   who is a reader after a thread enters or leaves, for any mask
 --     entered-twice, left-twice   entering twice is entering once, and so for leaving
---     entered-mask, left-mask     masks of the six threads stay such
+--     entered-mask, left-mask, reader-member   masks of the first n threads stay such, and their readers are among these
 --     reader-some, somebody, nobody   with a reader a mask is not 0; such a mask that is not 0 has a reader, and is 0 exactly when nobody is one
 use mathlib.Core.Path.{_≡_, refl, sym, _∙_, ap, subst}
 use mathlib.Core.Logic.{_⊎_, inl, inr, _↔_}
@@ -25,7 +24,7 @@ half-bit : (mask i : ℕ) → mask / 2 ^ suc i % 2 ≡ mask / 2 / 2 ^ i % 2
 half-bit mask i = ap (λ (n : ℕ). n % 2) (ap (λ (n : ℕ). mask / n) (pow-succ' 2 i) ∙ sym (div-div-eq-div-mul mask 2 (2 ^ i)))
 
 -- a bit that is not in the mask fits under a bound that has room for it
-pub room : (i k mask : ℕ) → mask < 2 ^ suc i * k → (mask / 2 ^ i % 2 ≡ 1 → ⊥) → mask + 2 ^ i < 2 ^ suc i * k
+room : (i k mask : ℕ) → mask < 2 ^ suc i * k → (mask / 2 ^ i % 2 ≡ 1 → ⊥) → mask + 2 ^ i < 2 ^ suc i * k
 room zero k mask l n = omega (arith, l, n)
 room (suc i) k mask l n =
     let h : 2 ^ suc (suc i) * k ≡ 2 * (2 ^ suc i * k) = ap (λ (m : ℕ). m * k) (pow-succ' 2 (suc i)) ∙ mul-assoc 2 (2 ^ suc i) k in
@@ -41,25 +40,25 @@ within (suc i) mask e =
     let q : 2 ^ i ≤ mask / 2 = within i (mask / 2) (sym (half-bit mask i) ∙ e) in
     omega (arith, p, q)
 
--- every thread's bit has room below a multiple of 2 ^ maxThreads
-pub wider : (i n : ℕ) → i < n → (k : ℕ) → (j : ℕ) × (2 ^ n * k ≡ 2 ^ suc i * j)
+-- the bit of a place below n has room below a multiple of 2 ^ n
+wider : (i n : ℕ) → i < n → (k : ℕ) → (j : ℕ) × (2 ^ n * k ≡ 2 ^ suc i * j)
 wider i zero l k = absurd (omega (arith, l))
 wider zero (suc n) l k = (2 ^ n * k, ap (λ (m : ℕ). m * k) (pow-succ' 2 n) ∙ mul-assoc 2 (2 ^ n) k)
 wider (suc i) (suc n) l k =
     let r = wider i n (omega (arith, l)) k in
     (r .0, ap (λ (m : ℕ). m * k) (pow-succ' 2 n) ∙ mul-assoc 2 (2 ^ n) k ∙ ap (λ (m : ℕ). 2 * m) (r .1) ∙ sym (mul-assoc 2 (2 ^ suc i) (r .0)) ∙ ap (λ (m : ℕ). m * r .0) (sym (pow-succ' 2 (suc i))))
 
+fits : (n k mask i : ℕ) → i < n → mask < 2 ^ n * k → (mask / 2 ^ i % 2 ≡ 1 → ⊥) → mask + 2 ^ i < 2 ^ n * k
+fits n k mask i h l z =
+    let r = wider i n h k in
+    subst (λ (m : ℕ). mask + 2 ^ i < m) (sym (r .1)) (room i (r .0) mask (subst (λ (m : ℕ). mask < m) (r .1) l) z)
+
 pub entered-fits : (k mask : ℕ) (t : ThreadId) → mask < 2 ^ maxThreads * k → isReader mask t ≡ false → mask + readerBit t < 2 ^ maxThreads * k
 unfolding isReader
 entered-fits k mask t l n = go (ltb (t .0) maxThreads) refl n
   where
-    at-place : t .0 < maxThreads → (mask / 2 ^ (t .0) % 2 ≡ 1 → ⊥) → mask + 2 ^ (t .0) < 2 ^ maxThreads * k
-    at-place h z =
-        let r = wider (t .0) maxThreads h k in
-        subst (λ (m : ℕ). mask + 2 ^ (t .0) < m) (sym (r .1)) (room (t .0) (r .0) mask (subst (λ (m : ℕ). mask < m) (r .1) l) z)
-
     go : (b : Bool) → ltb (t .0) maxThreads ≡ b → elim b [ true ↦ eqb (mask / 2 ^ (t .0) % 2) 1 | false ↦ false ] ≡ false → mask + elim b [ true ↦ 2 ^ (t .0) | false ↦ 0 ] < 2 ^ maxThreads * k
-    go true e z = at-place (ltb-true _ _ e) (eqb-false _ _ z)
+    go true e z = fits maxThreads k mask (t .0) (ltb-true _ _ e) l (eqb-false _ _ z)
     go false e z = omega (arith, l)
 
 pub member-bit : (mask : ℕ) (t : ThreadId) → isReader mask t ≡ true → readerBit t ≤ mask
@@ -191,14 +190,35 @@ left-twice mask t = out (withoutReader mask t) (left-self mask t)
     out : (m : ℕ) → isReader m t ≡ false → withoutReader m t ≡ m
     out m e = rw (withoutReader, e)
 
--- masks of the six threads
-pub entered-mask : (mask : ℕ) (t : ThreadId) → mask < 2 ^ maxThreads → withReader mask t < 2 ^ maxThreads
-unfolding withReader
-entered-mask mask t l = by-test (λ (m : ℕ). m < 2 ^ maxThreads) (isReader mask t) (λ e. l) (λ e. omega (arith, entered-fits 1 mask t (omega (arith, l)) e))
+-- masks of the first n threads
+pub entered-mask : (n mask : ℕ) (t : ThreadId) → t .0 < n → mask < 2 ^ n → withReader mask t < 2 ^ n
+entered-mask n mask t h l = go (enters mask t)
+  where
+    go : (withReader mask t ≡ mask) ⊎ ((withReader mask t ≡ mask + 2 ^ (t .0)) × (bit (t .0) mask ≡ 1 → ⊥)) → withReader mask t < 2 ^ n
+    go (inl e) = omega (arith, e, l)
+    go (inr e) = omega (arith, e .0, fits n 1 mask (t .0) h (omega (arith, l)) (e .1))
 
-pub left-mask : (mask : ℕ) (t : ThreadId) → mask < 2 ^ maxThreads → withoutReader mask t < 2 ^ maxThreads
+pub left-mask : (n mask : ℕ) (t : ThreadId) → mask < 2 ^ n → withoutReader mask t < 2 ^ n
 unfolding withoutReader
-left-mask mask t l = by-test (λ (m : ℕ). m < 2 ^ maxThreads) (isReader mask t) (λ e. omega (arith, l)) (λ e. l)
+left-mask n mask t l = by-test (λ (m : ℕ). m < 2 ^ n) (isReader mask t) (λ e. omega (arith, l)) (λ e. l)
+
+-- a larger power
+pub pow-most : (i n : ℕ) → i ≤ n → 2 ^ i ≤ 2 ^ n
+pow-most i n l = go (n - i) n (omega (arith, l))
+  where
+    go : (k n : ℕ) → n ≡ i + k → 2 ^ i ≤ 2 ^ n
+    go zero n e = let q : 2 ^ n ≡ 2 ^ i = ap (λ (m : ℕ). 2 ^ m) (omega (arith, e)) in omega (arith, q)
+    go (suc k) zero e = absurd (omega (arith, e))
+    go (suc k) (suc n) e = omega (arith, pow-succ' 2 n, go k n (omega (arith, e)))
+
+pub reader-member : (n mask : ℕ) (t : ThreadId) → mask < 2 ^ n → isReader mask t ≡ true → t .0 < n
+reader-member n mask t l e = split (ltb (t .0) n) (λ z. ltb-true _ _ z) (λ z. absurd (past (ltb-false _ _ z)))
+  where
+    past : n ≤ t .0 → ⊥
+    past h =
+        split (ltb (t .0) maxThreads)
+        (λ z. omega (arith, l, within (t .0) mask (eqb-true _ _ (sym (reader-at mask t (ltb-true _ _ z)) ∙ e)), pow-most n (t .0) h))
+        (λ z. false≢true (sym (reader-past mask t (ltb-false _ _ z)) ∙ e))
 
 -- who has a reader is not 0, and the other way round
 empty : (t : ThreadId) → isReader 0 t ≡ false

@@ -1,12 +1,10 @@
 -- Who holds a mutex and who writes is one of the table's threads; a mask of readers is never 0, and has no bit of another thread.
-use mathlib.Core.Path.{_≡_, refl, sym, _∙_, ap, subst}
-use mathlib.Core.Bool.{Bool, true, false, false≢true}
+use mathlib.Core.Path.{subst}
 use mathlib.Core.List.{List}
-use Prim.Native.Nat.{ℕ, zero, suc, _+_, _-_, _*_, _/_, _%_, _^_, _≤_, _<_}
-use native.Mathlib.Nat.{pow-succ'}
+use Prim.Native.Nat.{ℕ, _^_, _≤_, _<_}
 use native.Mathlib.Omega.{arith}
-use lib.Dec.{eqb, ltb}
-use borrow.Author.Tests.{lt-ltb, ltb-true, ltb-false, eqb-false}
+use lib.Dec.{eqb}
+use borrow.Author.Tests.{eqb-false}
 use Rattle.clocks.specs.Clock.{maxThreads}
 use Rattle.clocks.specs.declared.clock.Clock.{Clock}
 use Rattle.clocks.specs.declared.thread.ThreadId.{ThreadId}
@@ -30,8 +28,8 @@ use Rattle.rules.specs.Ground.{Does}
 use Rattle.rules.specs.Object.{newEntry}
 use Rattle.rules.specs.Mutex as mutex
 use Rattle.rules.specs.RwLock as rwlock
-use Rattle.rules.specs.RwLockLaws.{room, wider, member-bit}
-use Rattle.rules.specs.TableLaws.{by-test, split}
+use Rattle.rules.specs.RwLockLaws.{entered-self, entered-mask, left-mask, reader-some, pow-most}
+use Rattle.rules.specs.TableLaws.{by-test}
 use Rattle.rules.specs.Effect.{setLastAccess, doing}
 use Rattle.theorems.specs.Kept.{by-locked}
 use Rattle.theorems.specs.Objects.{Lasting}
@@ -50,62 +48,13 @@ Reading n (locked.Write t) = t .0 < n
 abbrev pub Holders : ℕ → Entry → Type 0
 Holders n e = Holding n (e .mutex .lock) × Reading n (e .rwlock .lock)
 
--- a bit is something
-bit-some : (i : ℕ) → 0 < 2 ^ i
-bit-some zero = omega arith
-bit-some (suc i) = omega (arith, pow-succ' 2 i, bit-some i)
-
--- a larger power
-pub pow-most : (i n : ℕ) → i ≤ n → 2 ^ i ≤ 2 ^ n
-pow-most i n l = go (n - i) n (omega (arith, l))
-  where
-    go : (k n : ℕ) → n ≡ i + k → 2 ^ i ≤ 2 ^ n
-    go zero n e = let q : 2 ^ n ≡ 2 ^ i = ap (λ (m : ℕ). 2 ^ m) (omega (arith, e)) in omega (arith, q)
-    go (suc k) zero e = absurd (omega (arith, e))
-    go (suc k) (suc n) e = omega (arith, pow-succ' 2 n, go k n (omega (arith, e)))
-
--- so a reader is one of the n threads
-pub reader-member : (n mask : ℕ) (t : ThreadId) → mask < 2 ^ n → rwlock.isReader mask t ≡ true → t .0 < n
-unfolding rwlock.isReader
-reader-member n mask t l e =
-    split (ltb (t .0) n) (λ z. ltb-true (t .0) n z)
-    (λ z. absurd (omega (arith, l, member-bit mask t e, bit (ltb (t .0) maxThreads) refl e, pow-most n (t .0) (ltb-false (t .0) n z))))
-  where
-    bit : (b : Bool) → ltb (t .0) maxThreads ≡ b → elim b [ true ↦ eqb (mask / 2 ^ (t .0) % 2) 1 | false ↦ false ] ≡ true → rwlock.readerBit t ≡ 2 ^ (t .0)
-    bit true q f = by-test (λ (m : ℕ). m ≡ 2 ^ (t .0)) (ltb (t .0) maxThreads) (λ z. refl) (λ z. absurd (false≢true (sym z ∙ q)))
-    bit false q f = absurd (false≢true f)
-
 module _ (n : ℕ) (few : n ≤ maxThreads) (a : ThreadId) (member : a .0 < n) where
-  bit-is : rwlock.readerBit a ≡ 2 ^ (a .0)
-  bit-is = by-test (λ (m : ℕ). m ≡ 2 ^ (a .0)) (ltb (a .0) maxThreads) (λ e. refl) (λ e. absurd (false≢true (sym e ∙ lt-ltb (a .0) maxThreads (omega (arith, few, member)))))
-
-  -- a reader that is not in the mask has its bit unset
-  unset : (mask : ℕ) → rwlock.isReader mask a ≡ false → mask / 2 ^ (a .0) % 2 ≡ 1 → ⊥
-  unfolding rwlock.isReader
-  unset mask e = go (ltb (a .0) maxThreads) (lt-ltb (a .0) maxThreads (omega (arith, few, member))) e
-    where
-      go : (b : Bool) → b ≡ true → elim b [ true ↦ eqb (mask / 2 ^ (a .0) % 2) 1 | false ↦ false ] ≡ false → mask / 2 ^ (a .0) % 2 ≡ 1 → ⊥
-      go true q f = eqb-false (mask / 2 ^ (a .0) % 2) 1 f
-      go false q f = absurd (false≢true q)
-
   -- a reader enters
   entered : (mask : ℕ) → mask < 2 ^ n → (0 < rwlock.withReader mask a) × (rwlock.withReader mask a < 2 ^ n)
-  unfolding rwlock.withReader
-  entered mask l =
-      by-test (λ (m : ℕ). (0 < m) × (m < 2 ^ n)) (rwlock.isReader mask a) (λ e. (omega (arith, member-bit mask a e, bit-is, bit-some (a .0)), l))
-      (λ e. (omega (arith, bit-is, bit-some (a .0)), fits e))
-    where
-      fits : rwlock.isReader mask a ≡ false → mask + rwlock.readerBit a < 2 ^ n
-      fits e =
-          let r = wider (a .0) n member 1 in
-          let q : 2 ^ n ≡ 2 ^ suc (a .0) * r .0 = omega (arith, r .1) in
-          let x : mask + 2 ^ (a .0) < 2 ^ suc (a .0) * r .0 = room (a .0) (r .0) mask (omega (arith, l, q)) (unset mask e) in
-          omega (arith, x, q, bit-is)
+  entered mask l = (reader-some (rwlock.withReader mask a) a (entered-self mask a (omega (arith, few, member))), entered-mask n mask a member l)
 
-  -- a reader leaves
-  left-most : (mask : ℕ) → rwlock.withoutReader mask a ≤ mask
-  unfolding rwlock.withoutReader
-  left-most mask = by-test (λ (m : ℕ). m ≤ mask) (rwlock.isReader mask a) (λ e. omega arith) (λ e. omega arith)
+  first-entered : (0 < rwlock.withReader 0 a) × (rwlock.withReader 0 a < 2 ^ n)
+  first-entered = entered 0 (omega (arith, pow-most 0 n (omega arith)))
 
   mutex-held : (c : MutexCall) (o : ObjectId) (by : Clock) (s : MutexState) → Holding n (s .lock) → Holding n (mutex.doing c a o by s .state .lock)
   unfolding mutex.doing
@@ -118,15 +67,15 @@ module _ (n : ℕ) (few : n ≤ maxThreads) (a : ThreadId) (member : a .0 < n) w
 
   rwlock-held : (c : RwLockCall) (o : ObjectId) (by : Clock) (s : RwLockState) → Reading n (s .lock) → Keeps (rwlock.doing c a o by s)
   unfolding rwlock.doing
-  rwlock-held rwlock-call.AcquireReadLock o by s h = by-locked Keeps (s .lock) (λ e. entered 0 (bit-some n)) (λ m e. entered m (subst (Reading n) e h .1)) (λ t e. h)
+  rwlock-held rwlock-call.AcquireReadLock o by s h = by-locked Keeps (s .lock) (λ e. first-entered) (λ m e. entered m (subst (Reading n) e h .1)) (λ t e. h)
   rwlock-held rwlock-call.AcquireWriteLock o by s h = by-locked Keeps (s .lock) (λ e. member) (λ m e. h) (λ t e. h)
-  rwlock-held rwlock-call.TryAcquireReadLock o by s h = by-locked Keeps (s .lock) (λ e. entered 0 (bit-some n)) (λ m e. entered m (subst (Reading n) e h .1)) (λ t e. h)
+  rwlock-held rwlock-call.TryAcquireReadLock o by s h = by-locked Keeps (s .lock) (λ e. first-entered) (λ m e. entered m (subst (Reading n) e h .1)) (λ t e. h)
   rwlock-held rwlock-call.TryAcquireWriteLock o by s h = by-locked Keeps (s .lock) (λ e. member) (λ m e. h) (λ t e. h)
   rwlock-held rwlock-call.ReleaseReadLock o by s h =
       by-locked Keeps (s .lock) (λ e. h)
       (λ m e.
       by-test Keeps (eqb (rwlock.withoutReader m a) 0) (λ z. tt)
-      (λ z. (omega (arith, eqb-false (rwlock.withoutReader m a) 0 z), omega (arith, left-most m, subst (Reading n) e h .1)))) (λ t e. h)
+      (λ z. (omega (arith, eqb-false (rwlock.withoutReader m a) 0 z), left-mask n m a (subst (Reading n) e h .1)))) (λ t e. h)
   rwlock-held rwlock-call.ReleaseWriteLock o by s h = tt
 
   doing-held : (c : Call) (o : ObjectId) (by : Clock) (e : Entry) → Holders n e → Holders n (doing c a o by e .state)

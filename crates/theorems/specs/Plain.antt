@@ -25,10 +25,11 @@ use Rattle.rules.specs.Table.{Read, accepted, readTable}
 use Rattle.rules.specs.TableLaws.{by-test, read-within}
 use Rattle.rules.specs.Turn.{entryIn, start}
 use Rattle.rules.specs.Judge.{Verdict, Given, over, shown, judgeTable, judgeOf, step}
+use Rattle.rules.specs.RwLockLaws.{pow-most}
 use Rattle.theorems.specs.Reached.{Shown, ShownBy}
 use Rattle.theorems.specs.All.{All, all-rest, get-rest}
 use Rattle.theorems.specs.Objects.{lasting}
-use Rattle.theorems.specs.Holders.{Reading, Holders, pow-most, holders-last}
+use Rattle.theorems.specs.Holders.{Reading, Holders, holders-last}
 use Rattle.theorems.specs.Counts.{arc-most, reading-most}
 use Rattle.theorems.specs.Answers.{answer-most}
 
