@@ -9,8 +9,9 @@ use lib.ListN.{length, take, length-set}
 use lib.Seq.{take-suc-set, append-snoc}
 use Rattle.lists.specs.Rules.{Outcome, refused, done, wants, allowedb, allowed}
 use Rattle.lists.specs.Judge.{verdict, judge}
-use Rattle.lists.specs.Greedy.{goOn, larger, smallest, greedy, greedy-enough, smallest-allowed}
-use Rattle.lists.specs.Next.{raised, firstOf}
+use Rattle.lists.specs.Greedy.{larger, smallest, smallest-allowed}
+use Rattle.lists.specs.Next.{raised}
+use Rattle.lists.specs.Code.{raised-smallest, raised-last, raised-wants}
 use Rattle.rules.specs.declared.table.Table.{Table}
 use Rattle.rules.specs.declared.world.World.{World}
 use Rattle.rules.specs.Limits.{maxList}
@@ -25,7 +26,6 @@ use Rattle.theorems.specs.Falling.{Good}
 use Rattle.theorems.specs.Machine.{bounded, some-allowed, keeps, falls}
 use Rattle.theorems.specs.Length.{left-some}
 use Rattle.walk.specs.Decided.{least-is}
-use Rattle.lists.specs.Code.{raised-smallest}
 use Rattle.walker.specs.declared.Path.{Path}
 use Rattle.walker.specs.Walking.{leastFrom, ranBy, with, completed}
 use Rattle.walker.specs.Steps.{first-on, first-over}
@@ -102,18 +102,14 @@ module _ (table : Table) (n : Within table) where
 
   -- the decision d, and then the smallest ones
   raised-done : (w : World) (d : ℕ) (v : Verdict) → step table w d ≡ done v → d ∷ [] ≡ raised (step table) decisions (left table) w d
-  unfolding raised
-  raised-done w d v e = ap (λ (o : Outcome World Verdict). d ∷ goOn o (greedy (step table) decisions (left table w))) (sym e)
+  raised-done w d v e = sym (raised-last (step table) decisions (left table) w d (λ u f. let z : done v ≡ wants u = sym e ∙ f in let q : _≡_ {A = ℕ} 0 1 = cc in omega (arith, q)))
 
-  raised-wants : (w : World) (d : ℕ) (v : World) → Good table w → step table w d ≡ wants v
+  raised-on : (w : World) (d : ℕ) (v : World) → Good table w → step table w d ≡ wants v
       → d ∷ raised (step table) decisions (left table) v (leastFrom v 0) ≡ raised (step table) decisions (left table) w d
-  unfolding raised firstOf
-  raised-wants w d v g e =
+  raised-on w d v g e =
       ap (λ (k : ℕ). d ∷ raised (step table) decisions (left table) v k) (smallest-is table v)
       ∙ ap (λ (l : List ℕ). d ∷ l) (raised-smallest (step table) decisions (left table) v)
-      ∙ ap (λ (l : List ℕ). d ∷ l)
-      (greedy-enough (step table) decisions (left table) (Good table) (bounded table n) (some-allowed table n) (keeps table n) (falls table n) (suc (left table v)) (left table w) v (keeps table n w d v g e) (omega arith) (falls table n w d v g e))
-      ∙ ap (λ (o : Outcome World Verdict). d ∷ goOn o (greedy (step table) decisions (left table w))) (sym e)
+      ∙ sym (raised-wants (step table) decisions (left table) (Good table) (bounded table n) (some-allowed table n) (keeps table n) (falls table n) w d v g e)
 
   -- a completion ends the run, with the smallest list
   pub completed-ends : (k : ℕ) (w : World) (p : Path) (low : ℕ) → Good table w → left table w ≤ k → p .at + left table w ≤ maxList → length (p .list) ≡ maxList → length (p .later) ≡ maxList
@@ -144,5 +140,5 @@ module _ (table : Table) (n : Within table) where
           let less = falls table n w d v g e in
           let some = smallest-allowed (step table) decisions (left table) (Good table) (bounded table n) (some-allowed table n) (keeps table n) (falls table n) v (keeps table n w d v g e) in
           let rest = ih v q 0 (keeps table n w d v g e) (omega (arith, less, enough)) (omega (arith, less, few)) (length-set (p .list) (p .at) d ∙ long) (length-set (p .later) (p .at) _ ∙ long-later) (ap (allowed (step table) v) (smallest-is table v) ∙ some) in
-          subst (λ (l : List ℕ). Ends table w p l (completed table (suc k) w p low)) (raised-wants w d v g e)
+          subst (λ (l : List ℕ). Ends table w p l (completed table (suc k) w p low)) (raised-on w d v g e)
           (subst (Ends table w p (d ∷ raised (step table) decisions (left table) v (leastFrom v 0))) made (ends-wants w p d end.Unfinished room long long-later v e (raised (step table) decisions (left table) v (leastFrom v 0)) (completed table k v q 0) rest))

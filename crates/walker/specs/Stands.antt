@@ -13,10 +13,10 @@ use lib.Dec.{T, ltb, leb}
 use lib.ListN.{length, take, drop, getD, length-replicate, length-append, take-append-drop}
 use lib.Seq.{length-take-le, take-take, take-add, take-append-le, getD-take}
 use borrow.Author.Tests.{ltb-true, ltb-false, leb-true, leb-false}
-use Rattle.lists.specs.Rules.{allowed, complete, Complete}
+use Rattle.lists.specs.Rules.{allowed, Complete}
 use Rattle.lists.specs.Judge.{Judged, isVerdict, verdict, judge, judge-complete}
 use Rattle.lists.specs.Greedy.{larger, larger-allowed, smallest-allowed}
-use Rattle.lists.specs.Code.{seek-hit}
+use Rattle.lists.specs.Code.{seek-hit, raised-smallest}
 use Rattle.lists.specs.Next.{raised, later, firstOf, nextOf, nextOf-later}
 use Rattle.lists.specs.Walk.{walkFrom, walkOn, walk}
 use Rattle.rules.specs.declared.table.Table.{Table}
@@ -36,7 +36,6 @@ use Rattle.theorems.specs.Machine.{bounded, some-allowed, keeps, falls}
 use Rattle.theorems.specs.Accepted.{start-good}
 use Rattle.theorems.specs.Length.{start-left}
 use Rattle.walk.specs.Says.{Started}
-use Rattle.lists.specs.Code.{raised-smallest}
 use Rattle.walker.specs.declared.Path.{Path}
 use Rattle.walker.specs.declared.Kept.{Kept}
 use Rattle.walker.specs.declared.Walker.{Walker}

@@ -21,6 +21,7 @@ use Rattle.turns_run.specs.declared.End.{End}
 use Rattle.turns_run.specs.declared.End.the-variants as end
 use Rattle.turns_run.specs.declared.Ran.{Ran}
 use Rattle.turns_run.specs.Run.{ranOf}
+use Rattle.walk.specs.Says.{isOver}
 use Rattle.walker.specs.declared.Path.{Path}
 use Rattle.walker.specs.declared.Kept.{Kept}
 use Rattle.walker.specs.declared.Walker.{Walker}
@@ -33,16 +34,10 @@ least-small w k d h e = omega (arith, h, e, seek-sought (isAllowed (w .asked) (w
 pub least-at-most : (w : World) (k d : ℕ) → k ≤ decisions → d ≡ leastFrom w k → d ≤ decisions
 least-at-most w k d h e = omega (arith, h, e, seek-sought (isAllowed (w .asked) (w .threads)) (decisions - k) k .high)
 
-abbrev pub isMore : End → Bool
-isMore (end.NotAllowed i) = false
-isMore (end.Surplus i) = false
-isMore end.Unfinished = true
-isMore (end.Verdict a) = false
-
-or-over : (x : End) (a b : Path) → isMore x ≡ false → orOn x a b ≡ a
+or-over : (x : End) (a b : Path) → isOver x ≡ true → orOn x a b ≡ a
 or-over (end.NotAllowed i) a b h = refl
 or-over (end.Surplus i) a b h = refl
-or-over end.Unfinished a b h = absurd (false≢true (sym h))
+or-over end.Unfinished a b h = absurd (false≢true h)
 or-over (end.Verdict v) a b h = refl
 
 module _ (table : Table) (w : World) (p : Path) (low : ℕ) where
@@ -62,7 +57,7 @@ module _ (table : Table) (w : World) (p : Path) (low : ℕ) where
     pub first-on : (n : ℕ) → r .end ≡ end.Unfinished → completed table (suc n) w p low ≡ completed table n (r .world) (with p d e (r .end)) 0
     first-on n f = first n ∙ ap (λ (x : End). orOn x (with p d e (r .end)) (completed table n (r .world) (with p d e (r .end)) 0)) f
 
-    pub first-over : (n : ℕ) → isMore (r .end) ≡ false → completed table (suc n) w p low ≡ with p d e (r .end)
+    pub first-over : (n : ℕ) → isOver (r .end) ≡ true → completed table (suc n) w p low ≡ with p d e (r .end)
     first-over n f = first n ∙ or-over (r .end) _ _ f
 
     module _ (h : p .at < maxList) where
@@ -72,7 +67,7 @@ module _ (table : Table) (w : World) (p : Path) (low : ℕ) where
       pub complete-on : r .end ≡ end.Unfinished → completed table (maxList - p .at) w p low ≡ completed table (maxList - (p .at + 1)) (r .world) (with p d e (r .end)) 0
       complete-on f = ap (λ (k : ℕ). completed table k w p low) room ∙ first-on (maxList - (p .at + 1)) f
 
-      pub complete-over : isMore (r .end) ≡ false → completed table (maxList - p .at) w p low ≡ with p d e (r .end)
+      pub complete-over : isOver (r .end) ≡ true → completed table (maxList - p .at) w p low ≡ with p d e (r .end)
       complete-over f = ap (λ (k : ℕ). completed table k w p low) room ∙ first-over (maxList - (p .at + 1)) f
 
 pub below-end : (l : List ℕ) → lastBelow l 0 ≡ 0

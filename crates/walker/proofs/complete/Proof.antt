@@ -3,7 +3,7 @@ use mathlib.Core.Path.{_≡_, refl, sym, _∙_}
 use Prim.Native.Nat.{_+_, _-_, _≤_}
 use native.Mathlib.Omega.{arith}
 use lib.ListN.{length, length-set}
-use mathlib.Core.Bool.{false}
+use mathlib.Core.Bool.{true}
 use mathlib.Core.List.{[], _∷_}
 use mathlib.Core.Logic.{inl, inr}
 use denote.Enum.Declared.{tagOf}
@@ -11,8 +11,9 @@ use types.Run.{OneOf}
 use Rattle.turns_run.specs.declared.End.{End}
 use Rattle.turns_run.specs.declared.End.the-variants as end
 use Rattle.turns_run.proofs.End as EndTag
+use Rattle.walk.specs.Says.{isOver}
 use Rattle.walker.specs.declared.Path.{Path}
-use Rattle.walker.specs.Steps.{least-at-most, least-small, isMore, complete-on, complete-over, complete-full}
+use Rattle.walker.specs.Steps.{least-at-most, least-small, complete-on, complete-over, complete-full}
 use Rattle.rules.specs.Limits.{maxList}
 use Rattle.rules.specs.Walk.{decisions}
 use Rattle.walker.specs.Walking.{completed}
@@ -38,7 +39,7 @@ small : (c : tie.After-least Inv-loop μ-loop) → c .least .result ≤ decision
 small c = let l = c .before .before .before .loop in least-at-most (l .w) (l .from) (c .least .result) (l .inv .3) (c .least .ensures)
 
 -- an end of the other arm wants no more
-ended : (x : End) → OneOf (0 ∷ 1 ∷ 3 ∷ []) (tagOf EndTag.the-type x) → isMore x ≡ false
+ended : (x : End) → OneOf (0 ∷ 1 ∷ 3 ∷ []) (tagOf EndTag.the-type x) → isOver x ≡ true
 ended (end.NotAllowed i) h = refl
 ended (end.Surplus i) h = refl
 ended end.Unfinished (inl e) = absurd (omega (arith, e))
