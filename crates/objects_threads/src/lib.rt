@@ -26,7 +26,7 @@ pub fn get(threads: [Thread; THREADS], id: ThreadId) -> Thread
 }
 
 // The threads with one of them changed; a number that none has changes nothing.
-pub fn put(mut threads: [Thread; THREADS], id: ThreadId, t: Thread) -> [Thread; THREADS]
+fn put(mut threads: [Thread; THREADS], id: ThreadId, t: Thread) -> [Thread; THREADS]
     ensures { λ r. ⌜ r ≡ putThread threads id t ⌝ }
 {
     let i = id.0 as usize;
