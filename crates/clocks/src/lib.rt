@@ -1,4 +1,6 @@
 // Clocks: one count for each thread (loom's rt/vv.rs), and the number by which a thread is named.
+#![tactic(auto)]
+
 mod clock;
 mod thread;
 

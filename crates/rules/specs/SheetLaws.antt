@@ -1,7 +1,7 @@
 -- A sheet's length is what its table says, and at most 1,766. How a sheet is written, a record after the other.
 use Rattle.std.specs.Prelude.{◌≡◌, refl, List, [], ◌∷◌, ◌++◌, map, ℕ, zero, suc, ◌+◌, ◌*◌, ◌≤◌, ◌<◌, length, get_or, set, take, drop}
 use Rattle.std.proofs.Common.{sym, ◌∙◌, ap, append_assoc, append-nil, mul-zero, mul-suc, not-suc-le-zero, le_of_suc-le-suc, add-one, arith, length-append, length-take}
-use Rattle.std.proofs.lemmas.List.Edits.{sets, sets_eq}
+use Rattle.std.proofs.lemmas.List.Edits.{sets, sets-eq}
 use Rattle.clocks.specs.Lists.{sets_then}
 use Rattle.clocks.specs.declared.clock.Clock.{Clock}
 use Rattle.clocks.specs.declared.thread.ThreadId.{ThreadId}
@@ -174,4 +174,4 @@ pub sheet_over : (buffer : List ℕ) (table : Table) (w : World) → sheet_lengt
 sheet_over buffer table w h =
     let s = sheet_of table w in
     let here : 0 + length s ≡ length s = omega arith in
-    sets_eq s buffer 0 (omega (arith, sheet_length_lem table w)) ∙ ap (λ (j : ℕ). s ++ drop j buffer) here
+    sets-eq s buffer 0 (omega (arith, sheet_length_lem table w)) ∙ ap (λ (j : ℕ). s ++ drop j buffer) here

@@ -1,5 +1,7 @@
 // The things that document 01 speaks of: threads, the seven kinds of objects, tables, worlds and answers, one module a file of loom's
 // or a part of 01. What happens to them is defined in specs/, and done in the crates above.
+#![tactic(auto)]
+
 pub mod access;
 pub mod answer;
 pub mod arc;
