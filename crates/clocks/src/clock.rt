@@ -7,13 +7,13 @@ use crate::thread::ThreadId;
 // As many counts as a table may have threads.
 pub const THREADS: usize = 6;
 
-#[derive(Drop)]
+#[derive(Clone, Copy)]
 pub struct Clock {
     pub counts: [u8; THREADS],
 }
 
 // Who is ahead of a clock: all of them, a bit for each, and the lowest.
-#[derive(Drop)]
+#[derive(Clone, Copy)]
 pub enum Ahead {
     Nobody,
     Threads { mask: u16, lowest: ThreadId },

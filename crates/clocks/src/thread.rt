@@ -1,3 +1,3 @@
 // A thread's number, and never an object's (loom's thread::Id).
-#[derive(Drop)]
+#[derive(Clone, Copy)]
 pub struct ThreadId(pub u8);

@@ -1,4 +1,6 @@
 // What the program `runs` prints of a table: a line for each of its runs.
+#![tactic(auto)]
+
 mod line;
 
 ghost use Rattle.std.specs.Prelude.{◌≡◌, ◌≤◌, ◌<◌, min, length};

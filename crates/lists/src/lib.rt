@@ -1,1 +1,3 @@
 // Complete lists of decisions, for any machine: definitions and laws only, in specs/.
+
+#![tactic(auto)]

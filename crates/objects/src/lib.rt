@@ -1,4 +1,6 @@
 // The store of objects: what each kind's crate says of an operation, a line for each kind; announcing, leaks (loom's rt/object.rs).
+#![tactic(auto)]
+
 ghost use Rattle.std.specs.Prelude.{◌≡◌};
 ghost use Rattle.rules.specs.Effect.{is_disabled, asks, last_dependent_access};
 ghost use Rattle.rules.specs.Turn.{dependence};

@@ -1,4 +1,6 @@
 // loom's rt/arc.rs.
+#![tactic(auto)]
+
 ghost use Rattle.std.specs.Prelude.{◌≡◌};
 ghost use Rattle.rules.specs.Ground.{flag, fails};
 ghost use Rattle.rules.specs.declared.arc.Call.TheVariants as call;

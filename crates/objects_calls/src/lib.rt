@@ -1,4 +1,6 @@
 // An operation before it takes effect: whether it is announced, and as what, a line for each kind (loom's rt/object.rs).
+#![tactic(auto)]
+
 ghost use Rattle.std.specs.Prelude.{◌≡◌};
 ghost use Rattle.rules.specs.Effect.{is_free, action_of, wait_of};
 ghost use Rattle.rules.specs.Object.{announced};

@@ -1,4 +1,6 @@
 // loom's rt/cell.rs.
+#![tactic(auto)]
+
 ghost use Rattle.std.specs.Prelude.{◌≡◌, []};
 ghost use Rattle.rules.specs.Ground.{does, fails};
 ghost use Rattle.rules.specs.declared.thread.Answered.TheVariants.{Kept};

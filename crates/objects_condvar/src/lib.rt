@@ -1,4 +1,6 @@
 // loom's rt/condvar.rs. The waiters stand oldest first.
+#![tactic(auto)]
+
 ghost use Rattle.std.specs.Prelude.{◌≡◌, [], ◌∷◌, ◌++◌, map, get_or, drop, take, replicate};
 ghost use Rattle.rules.specs.declared.condvar.Call.TheVariants as call;
 ghost use Rattle.rules.specs.declared.object.ObjectId.{ObjectId};

@@ -1,4 +1,6 @@
 // loom's rt/mpsc.rs. The messages' clocks stand oldest first; a place that no message has holds the zero clock.
+#![tactic(auto)]
+
 ghost use Rattle.std.specs.Prelude.{◌≡◌, [], ◌∷◌, ◌++◌, drop, get_or};
 ghost use Rattle.clocks.specs.Clock.{zero_clock};
 ghost use Rattle.rules.specs.declared.mpsc.Call.TheVariants.{Send, Recv};

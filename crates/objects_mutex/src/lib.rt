@@ -1,4 +1,6 @@
 // loom's rt/mutex.rs.
+#![tactic(auto)]
+
 ghost use Rattle.std.specs.Prelude.{◌≡◌};
 ghost use Rattle.rules.specs.declared.mutex.Call.TheVariants.{ReleaseLock};
 ghost use Rattle.rules.specs.Ground.{leaves};

@@ -1,4 +1,6 @@
 // loom's rt/notify.rs.
+#![tactic(auto)]
+
 ghost use Rattle.std.specs.Prelude.{◌≡◌};
 ghost use Rattle.rules.specs.Notify.{new, is_disabled, might_spur, asks, spur, set_last_access, effect};
 ghost use Rattle.rules.specs.declared.notify.Call.TheVariants.{Notify, Wait};

@@ -1,4 +1,6 @@
 // The pass over thread records that are lent, each changed by its own small function (loom's rt/thread.rs, and its loops over `threads.iter_mut()`).
+#![tactic(auto)]
+
 ghost use Rattle.std.specs.Prelude.{◌≡◌};
 ghost use Rattle.clocks.specs.Pass.{pass_from};
 ghost use Rattle.clocks.specs.declared.clock.Clock.{Clock};
@@ -13,7 +15,7 @@ use rules::thread::{Change, Phase, Thread};
 use rules::{mpsc, rwlock};
 
 // What a pass is about; `by` is the active thread's clock.
-#[derive(Drop)]
+#[derive(Clone, Copy)]
 pub struct Pass {
     pub change: Change,
     pub active: ThreadId,
@@ -22,7 +24,7 @@ pub struct Pass {
 }
 
 // What is done to one record.
-#[derive(Drop)]
+#[derive(Clone, Copy)]
 enum Next {
     Stays,
     Wakes,

@@ -1,4 +1,6 @@
 // The readers of an RwLock are a set: a mask with a bit for each thread (loom's `HashSet` of rt/rwlock.rs).
+#![tactic(auto)]
+
 ghost use Rattle.std.specs.Prelude.{◌≡◌};
 ghost use Rattle.rules.specs.RwLock.{reader_bit, is_reader, with_reader, without_reader};
 

@@ -1,4 +1,6 @@
 // A thread's record (loom's rt/thread.rs).
+#![tactic(auto)]
+
 ghost use Rattle.std.specs.Prelude.{◌≡◌};
 ghost use Rattle.rules.specs.Ground.{absent, with_state, with_phase, set_runnable, set_blocked, unpark_state, unpark, is_runnable, has_unpark, is_ended, is_on};
 

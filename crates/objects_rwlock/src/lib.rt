@@ -1,4 +1,6 @@
 // loom's rt/rwlock.rs. The readers are a set: a mask with a bit for each thread.
+#![tactic(auto)]
+
 ghost use Rattle.std.specs.Prelude.{◌≡◌};
 ghost use Rattle.rules.specs.declared.rwlock.Call.TheVariants.{ReleaseReadLock, ReleaseWriteLock};
 ghost use Rattle.rules.specs.Ground.{thread_at, leaves};

@@ -1,4 +1,6 @@
 // All threads, and the pass over them (loom's rt/thread.rs, rt/synchronize.rs).
+#![tactic(auto)]
+
 ghost use Rattle.std.specs.Prelude.{◌≡◌};
 ghost use Rattle.clocks.specs.Pass.{pass_from};
 ghost use Rattle.objects_pass.specs.Passes.{pass_at};

@@ -2,7 +2,7 @@
 // An access that never was has turn 0 and the zero clock.
 use clocks::Clock;
 
-#[derive(Drop)]
+#[derive(Clone, Copy)]
 pub struct Access {
     pub path_id: u16,
     pub version: Clock,

@@ -3,14 +3,14 @@ use crate::object::ObjectId;
 use clocks::ThreadId;
 
 // Where a step failed.
-#[derive(Drop)]
+#[derive(Clone, Copy)]
 pub struct Spot {
     pub thread: ThreadId,
     pub position: u8,
     pub object: ObjectId,
 }
 
-#[derive(Drop)]
+#[derive(Clone, Copy)]
 pub enum Answer {
     Clean,
     Race(Spot, ThreadId),
@@ -30,7 +30,7 @@ pub enum Answer {
     NotComplete,
 }
 
-#[derive(Drop)]
+#[derive(Clone, Copy)]
 pub struct Numbers {
     pub number: u8,
     pub place: usize,

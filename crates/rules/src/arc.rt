@@ -4,7 +4,7 @@ use crate::object::Ending;
 use crate::thread::{Answered, Thread};
 use clocks::{Clock, THREADS};
 
-#[derive(Drop)]
+#[derive(Clone, Copy)]
 pub enum Call {
     RefInc,
     RefDec,
@@ -12,21 +12,21 @@ pub enum Call {
     StrongCount,
 }
 
-#[derive(Drop)]
+#[derive(Clone, Copy)]
 pub enum Action {
     RefInc,
     RefDec,
     Inspect,
 }
 
-#[derive(Drop)]
+#[derive(Clone, Copy)]
 pub enum RefModify {
     Nothing,
     RefInc,
     RefDec,
 }
 
-#[derive(Drop)]
+#[derive(Clone, Copy)]
 pub struct State {
     pub ref_cnt: u16,
     pub synchronize: Clock,
@@ -36,7 +36,7 @@ pub struct State {
     pub last_ref_modification: RefModify,
 }
 
-#[derive(Drop)]
+#[derive(Clone, Copy)]
 pub struct Effect {
     pub ending: Ending,
     pub answer: Answered,

@@ -3,7 +3,7 @@ use crate::object::Ending;
 use crate::thread::{Answered, Thread};
 use clocks::{Clock, THREADS};
 
-#[derive(Drop)]
+#[derive(Clone, Copy)]
 pub enum Call {
     StartRead,
     EndRead,
@@ -11,7 +11,7 @@ pub enum Call {
     EndWrite,
 }
 
-#[derive(Drop)]
+#[derive(Clone, Copy)]
 pub struct State {
     pub is_reading: u16,
     pub is_writing: bool,
@@ -19,7 +19,7 @@ pub struct State {
     pub write_access: Clock,
 }
 
-#[derive(Drop)]
+#[derive(Clone, Copy)]
 pub struct Effect {
     pub ending: Ending,
     pub answer: Answered,

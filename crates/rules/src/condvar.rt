@@ -4,7 +4,7 @@ use crate::object::{Ending, ObjectId};
 use crate::thread::{Answered, Thread};
 use clocks::{THREADS, ThreadId};
 
-#[derive(Drop)]
+#[derive(Clone, Copy)]
 pub enum Call {
     Wait(ObjectId),
     NotifyOne,
@@ -12,7 +12,7 @@ pub enum Call {
 }
 
 // The mutex of a wait, and of every other operation none.
-#[derive(Drop)]
+#[derive(Clone, Copy)]
 pub enum Wait {
     On(ObjectId),
     Nowhere,
@@ -20,14 +20,14 @@ pub enum Wait {
 
 pub const WAITERS: usize = 8;
 
-#[derive(Drop)]
+#[derive(Clone, Copy)]
 pub struct State {
     pub last_access: Access,
     pub count: u8,
     pub waiters: [ThreadId; WAITERS],
 }
 
-#[derive(Drop)]
+#[derive(Clone, Copy)]
 pub struct Effect {
     pub ending: Ending,
     pub answer: Answered,

@@ -4,13 +4,13 @@ use crate::object::Ending;
 use crate::thread::{Answered, Thread};
 use clocks::{Clock, THREADS};
 
-#[derive(Drop)]
+#[derive(Clone, Copy)]
 pub enum Call {
     Send,
     Recv,
 }
 
-#[derive(Drop)]
+#[derive(Clone, Copy)]
 pub enum Action {
     MsgSend,
     MsgRecv,
@@ -18,7 +18,7 @@ pub enum Action {
 
 pub const MESSAGES: usize = 16;
 
-#[derive(Drop)]
+#[derive(Clone, Copy)]
 pub struct State {
     pub msg_cnt: u8,
     pub last_send_access: Access,
@@ -27,7 +27,7 @@ pub struct State {
     pub receiver_synchronize: [Clock; MESSAGES],
 }
 
-#[derive(Drop)]
+#[derive(Clone, Copy)]
 pub struct Effect {
     pub ending: Ending,
     pub answer: Answered,

@@ -4,27 +4,27 @@ use crate::object::Ending;
 use crate::thread::{Answered, Thread};
 use clocks::{Clock, THREADS, ThreadId};
 
-#[derive(Drop)]
+#[derive(Clone, Copy)]
 pub enum Call {
     AcquireLock,
     TryAcquireLock,
     ReleaseLock,
 }
 
-#[derive(Drop)]
+#[derive(Clone, Copy)]
 pub enum Lock {
     Free,
     Held(ThreadId),
 }
 
-#[derive(Drop)]
+#[derive(Clone, Copy)]
 pub struct State {
     pub lock: Lock,
     pub last_access: Access,
     pub synchronize: Clock,
 }
 
-#[derive(Drop)]
+#[derive(Clone, Copy)]
 pub struct Effect {
     pub ending: Ending,
     pub answer: Answered,

@@ -4,13 +4,13 @@ use crate::object::Ending;
 use crate::thread::{Answered, Thread};
 use clocks::{Clock, THREADS};
 
-#[derive(Drop)]
+#[derive(Clone, Copy)]
 pub enum Call {
     Notify,
     Wait,
 }
 
-#[derive(Drop)]
+#[derive(Clone, Copy)]
 pub struct State {
     pub spurious: bool,
     pub did_spur: bool,
@@ -19,7 +19,7 @@ pub struct State {
     pub synchronize: Clock,
 }
 
-#[derive(Drop)]
+#[derive(Clone, Copy)]
 pub struct Effect {
     pub ending: Ending,
     pub answer: Answered,

@@ -3,13 +3,13 @@ use crate::{arc, cell, condvar, mpsc, mutex, notify, rwlock};
 use clocks::ThreadId;
 
 // An object's number, and never a thread's (loom's object::Ref).
-#[derive(Drop)]
+#[derive(Clone, Copy)]
 pub struct ObjectId(pub u8);
 
 // As many objects as a table may have.
 pub const OBJECTS: usize = 16;
 
-#[derive(Drop)]
+#[derive(Clone, Copy)]
 pub enum Kind {
     Mutex,
     RwLock,
@@ -21,7 +21,7 @@ pub enum Kind {
     Nothing,
 }
 
-#[derive(Drop)]
+#[derive(Clone, Copy)]
 pub enum Action {
     Arc(arc::Action),
     Channel(mpsc::Action),
@@ -29,14 +29,14 @@ pub enum Action {
     Opaque,
 }
 
-#[derive(Drop)]
+#[derive(Clone, Copy)]
 pub struct Operation {
     pub obj: ObjectId,
     pub action: Action,
 }
 
 // An object in the store: the state of its kind is in use, and the others stay as at the start.
-#[derive(Drop)]
+#[derive(Clone, Copy)]
 pub struct Entry {
     pub kind: Kind,
     pub mutex: mutex::State,
@@ -49,7 +49,7 @@ pub struct Entry {
 }
 
 // How a step on an object ends.
-#[derive(Drop)]
+#[derive(Clone, Copy)]
 pub enum Ending {
     Fine,
     Misuse,

@@ -4,7 +4,7 @@ use crate::object::Ending;
 use crate::thread::{Answered, Thread};
 use clocks::{Clock, THREADS, ThreadId};
 
-#[derive(Drop)]
+#[derive(Clone, Copy)]
 pub enum Call {
     AcquireReadLock,
     AcquireWriteLock,
@@ -14,27 +14,27 @@ pub enum Call {
     ReleaseWriteLock,
 }
 
-#[derive(Drop)]
+#[derive(Clone, Copy)]
 pub enum Action {
     Read,
     Write,
 }
 
-#[derive(Drop)]
+#[derive(Clone, Copy)]
 pub enum Locked {
     Free,
     Read(u16),
     Write(ThreadId),
 }
 
-#[derive(Drop)]
+#[derive(Clone, Copy)]
 pub struct State {
     pub lock: Locked,
     pub last_access: Access,
     pub synchronize: Clock,
 }
 
-#[derive(Drop)]
+#[derive(Clone, Copy)]
 pub struct Effect {
     pub ending: Ending,
     pub answer: Answered,

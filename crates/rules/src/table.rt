@@ -5,7 +5,7 @@ use crate::object::{Kind, OBJECTS, ObjectId};
 use crate::{arc, cell, condvar, mpsc, mutex, notify, rwlock};
 use clocks::THREADS;
 
-#[derive(Drop)]
+#[derive(Clone, Copy)]
 pub enum Call {
     Mutex(mutex::Call),
     RwLock(rwlock::Call),
@@ -17,14 +17,14 @@ pub enum Call {
 }
 
 // An operation as a table has it.
-#[derive(Drop)]
+#[derive(Clone, Copy)]
 pub struct Op {
     pub call: Call,
     pub object: ObjectId,
 }
 
 // An object as a table has it.
-#[derive(Drop)]
+#[derive(Clone, Copy)]
 pub struct Made {
     pub kind: Kind,
     pub spurious: bool,
@@ -42,7 +42,7 @@ pub const LIST: usize = 97 * THREADS;
 pub const SHEET: usize = (5 + 2 * THREADS) * THREADS + (2 + THREADS + MESSAGES * THREADS) * OBJECTS;
 
 // The operations of thread t are ops[OPERATIONS * t ..], counts[t] of them.
-#[derive(Drop)]
+#[derive(Clone, Copy)]
 pub struct Table {
     pub objects: [Made; OBJECTS],
     pub object_count: u8,
@@ -52,7 +52,7 @@ pub struct Table {
 }
 
 // One record of a table.
-#[derive(Drop)]
+#[derive(Clone, Copy)]
 pub enum Record {
     Object(Made),
     Thread,
@@ -60,20 +60,20 @@ pub enum Record {
 }
 
 // What the bytes at a place are read as.
-#[derive(Drop)]
+#[derive(Clone, Copy)]
 pub enum Parsed {
     Whole(Record),
     Bad,
 }
 
 // What reading a table comes to. A refused one hands back the empty table.
-#[derive(Drop)]
+#[derive(Clone, Copy)]
 pub enum Taken {
     Accepted,
     Refused(Answer),
 }
 
-#[derive(Drop)]
+#[derive(Clone, Copy)]
 pub struct TableRead {
     pub taken: Taken,
     pub table: Table,

@@ -2,7 +2,7 @@
 use crate::object::Operation;
 use clocks::Clock;
 
-#[derive(Drop)]
+#[derive(Clone, Copy)]
 pub enum State {
     Runnable,
     // Runnable, with a stored unpark.
@@ -12,7 +12,7 @@ pub enum State {
 }
 
 // What a thread has announced. A parked thread has announced nothing; a retaking one takes back the mutex of its condvar wait.
-#[derive(Drop)]
+#[derive(Clone, Copy)]
 pub enum Phase {
     Nothing,
     Announced(Operation),
@@ -20,7 +20,7 @@ pub enum Phase {
     Retaking(Operation),
 }
 
-#[derive(Drop)]
+#[derive(Clone, Copy)]
 pub struct Thread {
     pub state: State,
     pub phase: Phase,
@@ -32,14 +32,14 @@ pub struct Thread {
 }
 
 // What an operation leaves as its thread's last answer: a number, or the one before.
-#[derive(Drop)]
+#[derive(Clone, Copy)]
 pub enum Answered {
     Kept,
     Left(u16),
 }
 
 // How a pass changes each other thread that is announced on an object.
-#[derive(Drop)]
+#[derive(Clone, Copy)]
 pub enum Change {
     Wake,
     Block,

@@ -5,13 +5,13 @@ use crate::thread::Thread;
 use clocks::{THREADS, ThreadId};
 
 // The thread that is asked whether its wait ends spuriously.
-#[derive(Drop)]
+#[derive(Clone, Copy)]
 pub enum Asked {
     Nobody,
     Thread(ThreadId),
 }
 
-#[derive(Drop)]
+#[derive(Clone, Copy)]
 pub struct World {
     pub threads: [Thread; THREADS],
     pub objects: [Entry; OBJECTS],
@@ -19,7 +19,7 @@ pub struct World {
     pub asked: Asked,
 }
 
-#[derive(Drop)]
+#[derive(Clone, Copy)]
 pub enum Step {
     // The decision is not allowed, and the world is as it was.
     Refused,
@@ -29,7 +29,7 @@ pub enum Step {
     Wants,
 }
 
-#[derive(Drop)]
+#[derive(Clone, Copy)]
 pub struct Decided {
     pub step: Step,
     pub world: World,

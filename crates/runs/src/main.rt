@@ -1,4 +1,6 @@
 // Reads a table's bytes from standard input, and prints a line for each of its runs.
+#![tactic(auto)]
+
 use libc::{STDIN_FILENO, STDOUT_FILENO};
 
 fn main() {

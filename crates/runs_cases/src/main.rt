@@ -1,4 +1,6 @@
 // The runs of the stored tables, one after another.
+#![tactic(auto)]
+
 use libc::STDOUT_FILENO;
 
 fn list(name: &[u8]) {

@@ -1,4 +1,6 @@
 // The calls for C and Rust.
+#![tactic(auto)]
+
 ghost use Rattle.std.specs.Prelude.{◌≡◌};
 ghost use Rattle.rules.specs.Answer.{numbers_of};
 ghost use Rattle.rules.specs.Judge.{judge_of};

@@ -1,1 +1,3 @@
 // What follows from document 01's definitions: runs end, every complete list is met once, no count meets its type's end, all that is read is there. Laws only, in specs/.
+
+#![tactic(auto)]

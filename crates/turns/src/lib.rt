@@ -1,4 +1,6 @@
 // A table and a list are judged, and the sheet is written.
+#![tactic(auto)]
+
 ghost use Rattle.std.specs.Prelude.{◌≡◌, map, replicate};
 ghost use Rattle.clocks.specs.Clock.{max_threads};
 ghost use Rattle.clocks.specs.Pass.{pass_from};

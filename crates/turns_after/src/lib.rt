@@ -1,4 +1,6 @@
 // After the turn: the leak check, a deadlock, or the next decision.
+#![tactic(auto)]
+
 ghost use Rattle.std.specs.Prelude.{◌≡◌};
 ghost use Rattle.rules.specs.Turn.{all_ended, any_runnable, leak_check, announced_object, stuck};
 ghost use Rattle.turns_steps.specs.Step.{after};

@@ -1,4 +1,6 @@
 // The six numbers of each answer.
+#![tactic(auto)]
+
 ghost use Rattle.std.specs.Prelude.{◌≡◌};
 ghost use Rattle.rules.specs.Answer.{only, at_place, at_spot, numbers_of};
 

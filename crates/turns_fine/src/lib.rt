@@ -1,4 +1,6 @@
 // The objects of an operation, against those that the table has made so far.
+#![tactic(auto)]
+
 ghost use Rattle.std.specs.Prelude.{◌≡◌, get_or};
 ghost use Rattle.rules.specs.Object.{no_object};
 ghost use Rattle.rules.specs.Table.{kind_number, kind_of, is_kind, mutex_fine, objects_fine};

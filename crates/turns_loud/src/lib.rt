@@ -1,5 +1,7 @@
 // The steps that change their object: an operation's effect, a spurious wake, the second half of a condvar wait. What takes effect is done in the
 // run, where the object stands; here is what goes before it, and in `turns_onward` what follows it.
+#![tactic(auto)]
+
 ghost use Rattle.std.specs.Prelude.{◌≡◌};
 ghost use Rattle.turns_steps.specs.Loud.{again, op_in, turn_in, asked_in, wakes_spuriously, version_in};
 

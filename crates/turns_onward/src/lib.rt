@@ -1,4 +1,6 @@
 // What follows what took effect: its thread has done one operation more or is parked, and goes on, or the step has failed.
+#![tactic(auto)]
+
 ghost use Rattle.std.specs.Prelude.{◌≡◌};
 ghost use Rattle.turns_steps.specs.Loud.{one_more, parked, after_effect, verdict_or, next_of, next_in, outcome};
 

@@ -1,4 +1,6 @@
 // The steps that leave their object as it is: each changes its own thread at most, so that no object and no other thread is handed on.
+#![tactic(auto)]
+
 ghost use Rattle.std.specs.Prelude.{◌≡◌};
 ghost use Rattle.turns_steps.specs.Quiet.{rests, stops, is_quiet, is_barred, announced_on, retaken_on, over, begins, goes_on, quietly};
 

@@ -1,4 +1,6 @@
 // One record of a table, read from its bytes.
+#![tactic(auto)]
+
 ghost use Rattle.std.specs.Prelude.{◌≡◌, ◌+◌, get_or, drop};
 ghost use Rattle.rules.specs.declared.object.Kind.TheVariants as kind;
 ghost use Rattle.rules.specs.declared.table.Call.TheVariants.{Mutex};

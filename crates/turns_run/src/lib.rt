@@ -1,4 +1,6 @@
 // A list of decisions, run from a world. The store of objects stays in its place: a step takes one object out and puts it back.
+#![tactic(auto)]
+
 ghost use Rattle.std.specs.Prelude.{◌≡◌};
 ghost use Rattle.lists.specs.Judge.{judge};
 ghost use Rattle.rules.specs.Judge.{step};
@@ -22,7 +24,7 @@ use turns_steps::{Acting, allowed_in, chosen, is_begun, place_of, subject, who};
 use turns_table::no_op;
 
 // How a list ends.
-#[derive(Drop)]
+#[derive(Clone, Copy)]
 pub enum End {
     NotAllowed(usize),
     Surplus(usize),
@@ -31,7 +33,7 @@ pub enum End {
 }
 
 // A refusal comes with no world, so that the one that was given need not be kept.
-#[derive(Drop)]
+#[derive(Clone, Copy)]
 pub struct Ran {
     pub end: End,
     pub world: World,

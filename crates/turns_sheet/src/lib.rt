@@ -1,4 +1,6 @@
 // The sheet: threads, then objects, each by its record. What lies past the end of the lent bytes is not written.
+#![tactic(auto)]
+
 ghost use Rattle.std.specs.Prelude.{◌≡◌, ◌<◌, min, take};
 ghost use Rattle.std.proofs.lemmas.List.Edits.{sets};
 ghost use Rattle.rules.specs.Ground.{absent};

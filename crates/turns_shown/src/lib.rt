@@ -1,4 +1,6 @@
 // What the sheet shows of a thread and of an object: its record. What lies past the end of the lent bytes is not written.
+#![tactic(auto)]
+
 ghost use Rattle.std.specs.Prelude.{◌≡◌, [], ◌∷◌, map, ◌+◌, ◌<◌, set};
 ghost use Rattle.std.proofs.lemmas.List.Edits.{sets};
 ghost use Rattle.clocks.specs.Clock.{zero_clock};

@@ -1,4 +1,6 @@
 // What a thread may do next, and the object that it is about. The steps themselves are in `turns_quiet` and `turns_loud`.
+#![tactic(auto)]
+
 ghost use Rattle.std.specs.Prelude.{◌≡◌, ◌-◌};
 ghost use Rattle.lists.specs.Greedy.{seek};
 ghost use Rattle.rules.specs.Turn.{mutex_of, is_allowed};
@@ -18,7 +20,7 @@ use rules::thread::{Answered, Phase, State, Thread};
 use rules::world::Asked;
 
 // What a thread does next.
-#[derive(Drop)]
+#[derive(Clone, Copy)]
 pub enum Move {
     Begins(ThreadId),
     // It was asked, and is told whether it wakes spuriously.
@@ -29,7 +31,7 @@ pub enum Move {
     Waits(ThreadId, ObjectId),
 }
 
-#[derive(Drop)]
+#[derive(Clone, Copy)]
 pub enum Acting {
     // The next decision is wanted.
     Nobody,
@@ -43,7 +45,7 @@ pub enum Acting {
 }
 
 // What a quiet step comes to: who acts next, its thread, and the rest of the world.
-#[derive(Drop)]
+#[derive(Clone, Copy)]
 pub struct Quiet {
     pub acting: Acting,
     pub thread: Thread,

@@ -1,4 +1,6 @@
 // Reading a table, a record at a time.
+#![tactic(auto)]
+
 ghost use Rattle.std.specs.Prelude.{◌≡◌};
 ghost use Rattle.rules.specs.Table.{empty_table, no_op, at_end, read_of, read_table};
 

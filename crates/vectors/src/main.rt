@@ -1,4 +1,6 @@
 // Replays the cases stored in the file `cases`, and says how many agree.
+#![tactic(auto)]
+
 mod case;
 mod counts;
 mod lines;

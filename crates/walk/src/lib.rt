@@ -1,4 +1,6 @@
 // Every run of a table, in order: the smallest complete list, and the smallest one above another.
+#![tactic(auto)]
+
 ghost use Rattle.std.specs.Prelude.{◌≡◌, ◌++◌, ◌≤◌, length, take, drop};
 ghost use Rattle.rules.specs.Judge.{step};
 ghost use Rattle.rules.specs.Table.{accepted};
@@ -15,7 +17,7 @@ use turns_steps::least;
 use turns_table::read_table;
 
 // A completion on its way: the table, the world where it stands, and its list so far, the first `at` bytes.
-#[derive(Drop)]
+#[derive(Clone, Copy)]
 pub struct Completion {
     pub table: Table,
     pub world: World,
@@ -24,14 +26,14 @@ pub struct Completion {
 }
 
 // A completion with one decision more, and whether another is wanted.
-#[derive(Drop)]
+#[derive(Clone, Copy)]
 pub struct Further {
     pub completion: Completion,
     pub wanted: bool,
 }
 
 // The last place so far where a larger decision is allowed, the world there, and that decision.
-#[derive(Drop)]
+#[derive(Clone, Copy)]
 pub struct Mark {
     pub found: bool,
     pub at: usize,
@@ -40,7 +42,7 @@ pub struct Mark {
 }
 
 // How a list ends, and its last mark.
-#[derive(Drop)]
+#[derive(Clone, Copy)]
 pub struct Passed {
     pub end: End,
     pub mark: Mark,

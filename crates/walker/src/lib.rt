@@ -1,4 +1,6 @@
 // Every run of a table in order, each with its verdict. A run begins as the one before it does, so that only its tail is run anew, from a kept world.
+#![tactic(auto)]
+
 ghost use Rattle.std.specs.Prelude.{◌≡◌, ◌-◌, ◌≤◌, length};
 ghost use Rattle.rules.specs.Limits.{max_list};
 ghost use Rattle.rules.specs.Walk.{decisions};
@@ -15,7 +17,7 @@ use turns_steps::least;
 const NEAR: usize = 3;
 
 // A run: the first `at` bytes of its list, at each place the smallest larger decision that is allowed (THREADS or more if there is none), and its end.
-#[derive(Drop)]
+#[derive(Clone, Copy)]
 pub struct Path {
     pub list: [u8; LIST],
     pub later: [u8; LIST],
@@ -24,14 +26,14 @@ pub struct Path {
 }
 
 // The world before the decision `from` of a list.
-#[derive(Drop)]
+#[derive(Clone, Copy)]
 pub struct Kept {
     pub world: World,
     pub from: usize,
 }
 
 // A walk: where it stands, and whether no run is left.
-#[derive(Drop)]
+#[derive(Clone, Copy)]
 pub struct Walker {
     pub table: Table,
     pub path: Path,

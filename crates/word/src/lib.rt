@@ -1,4 +1,6 @@
 // An answer in one word, for the calls for C.
+#![tactic(auto)]
+
 ghost use Rattle.std.specs.Prelude.{◌≡◌};
 ghost use Rattle.word.specs.Word.{word_of};
 
