@@ -20,13 +20,13 @@ returns-in-57 c = rw c.in-57.is
 pub returns-then-is_operation : goal.returns-then-is_operation
 unfolding body_length
 returns-then-is_operation c =
-    let r = c.in_default.rest in
+    let r = c.in_default.in_default-own.rest in
     let op = sym c.is_operation.ensures ∙ c.if-is_operation.true in
     rw (body_length, ne_eqb _ _ r.0.0.1, ne_eqb _ _ r.0.1, ne_eqb _ _ r.1, op)
 
 pub returns-else-is_operation : goal.returns-else-is_operation
 unfolding body_length
 returns-else-is_operation c =
-    let r = c.in_default.rest in
+    let r = c.in_default.in_default-own.rest in
     let op = sym c.is_operation.ensures ∙ c.if-is_operation.false in
     rw (body_length, ne_eqb _ _ r.0.0.1, ne_eqb _ _ r.0.1, ne_eqb _ _ r.1, op)

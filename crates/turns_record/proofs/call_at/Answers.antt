@@ -103,4 +103,4 @@ returns-in-23 c = rw c.in-23.is
 
 pub returns-in_default : goal.returns-in_default
 unfolding calls
-returns-in_default c = let a = c.args in let r = c.in_default.rest in sym (get_or-eq_default (calls a.second) _ {n = a.n} (none_below 24 a.n r))
+returns-in_default c = let a = c.args in let r = c.in_default.in_default-own.rest in sym (get_or-eq_default (calls a.second) _ {n = a.n} (none_below 24 a.n r))

@@ -35,4 +35,4 @@ returns-in-6 c = rw c.in-6.is
 
 pub returns-in_default : goal.returns-in_default
 unfolding kinds
-returns-in_default c = let n = c.args.n in let r = c.in_default.rest in sym (get_or-eq_default kinds _ {n = n} (none_below 7 n r))
+returns-in_default c = let n = c.args.n in let r = c.in_default.in_default-own.rest in sym (get_or-eq_default kinds _ {n = n} (none_below 7 n r))

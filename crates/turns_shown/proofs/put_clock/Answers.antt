@@ -10,10 +10,6 @@ use Rattle.rules.specs.SheetLaws.{filled-written}
 use borrow.Author.Rules.{rules}
 use Rattle.turns_shown.proofs.put_clock.Goals as goal
 
--- NOT MATCHED
-same_length : tie.Need-same-length invariant-loop decreases-loop
-same_length c = ap length c.before.loop.invariant.1 ∙ simp length-sets
-
 pub loop-i-init : goal.loop-i-init
 loop-i-init c = (search rules, refl)
 

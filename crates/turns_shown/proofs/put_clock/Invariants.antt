@@ -12,6 +12,3 @@ use Rattle.turns_shown.proofs.put_clock.Given as goal
 
 abbrev pub invariant-loop-i : goal.invariant-loop-i
 invariant-loop-i l = (l.i ≤ max_threads) × (l.sheet ≡ sets l.initial.sheet l.at (filled 0 l.i l.counts))
-
-abbrev pub decreases-loop-i : goal.decreases-loop-i
-decreases-loop-i l = max_threads - l.i

@@ -14,10 +14,6 @@ use Rattle.rules.specs.SheetLaws.{clock-length, each-written}
 use borrow.Author.Rules.{rules}
 use Rattle.turns_shown.proofs.put_messages.Goals as goal
 
--- NOT MATCHED
-same_length : tie.Need-same-length invariant-loop decreases-loop
-same_length c = ap length c.before.loop.invariant.1 ∙ simp length-sets
-
 pub loop-i-init : goal.loop-i-init
 loop-i-init c = (search rules, refl)
 
@@ -25,7 +21,7 @@ pub loop-i-preserved : goal.loop-i-preserved
 loop-i-preserved c =
     let a = c.args in
     let l = c.loop-i in
-    let ks : List Clock = a.t3 in
+    let ks : List Clock = a.clocks in
     let n : length ks ≡ max_messages = search rules in
     let inside : l.i < length ks = omega arith in
     (search rules, each-written a.sheet.now a.at clock_bytes max_threads clock-length zero_clock l.i ks l.invariant.1 (c.put_clock.ensures ∙ ap (λ (k : Clock). sets l.sheet (a.at + max_threads * l.i) (clock_bytes k)) (get_or-within ks l.i _ zero_clock inside)))

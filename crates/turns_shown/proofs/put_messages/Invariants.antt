@@ -16,6 +16,3 @@ use Rattle.turns_shown.proofs.put_messages.Given as goal
 
 abbrev pub invariant-loop-i : goal.invariant-loop-i
 invariant-loop-i l = (l.i ≤ max_messages) × (l.sheet ≡ sets l.initial.sheet l.at (each clock_bytes (filled zero_clock l.i l.clocks)))
-
-abbrev pub decreases-loop-i : goal.decreases-loop-i
-decreases-loop-i l = max_messages - l.i

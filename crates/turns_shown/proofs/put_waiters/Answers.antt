@@ -12,10 +12,6 @@ use Rattle.rules.specs.SheetLaws.{filled-written, waiter_at}
 use borrow.Author.Rules.{rules}
 use Rattle.turns_shown.proofs.put_waiters.Goals as goal
 
--- NOT MATCHED
-same_length : tie.Need-same-length invariant-loop decreases-loop
-same_length c = ap length c.before.loop.invariant.1 ∙ simp length-sets
-
 pub loop-i-init : goal.loop-i-init
 loop-i-init c = (search rules, refl)
 
@@ -23,7 +19,7 @@ pub loop-i-preserved : goal.loop-i-preserved
 loop-i-preserved c =
     let a = c.args in
     let l = c.loop-i in
-    let ws : List ThreadId = a.t3 in
+    let ws : List ThreadId = a.waiters in
     let n : length ws ≡ max_waiters = search rules in
     let here = ap (λ (b : ℕ). set l.sheet (a.at + l.i) b) (c.waiter_byte.ensures ∙ waiter_at ws l.i _ (omega arith)) in
     (search rules, filled-written a.sheet.now a.at 255 l.i (map number ws) l.invariant.1 (c.put.ensures ∙ here))

@@ -14,6 +14,3 @@ use Rattle.turns_shown.proofs.put_waiters.Given as goal
 
 abbrev pub invariant-loop-i : goal.invariant-loop-i
 invariant-loop-i l = (l.i ≤ max_waiters) × (l.sheet ≡ sets l.initial.sheet l.at (filled 255 l.i (map number l.waiters)))
-
-abbrev pub decreases-loop-i : goal.decreases-loop-i
-decreases-loop-i l = max_waiters - l.i
