@@ -1,0 +1,6 @@
+-- `new` meets its contract.
+use borrow.Author.Rules.{rules}
+use Rattle.objects_mutex.proofs.new.Goals as goal
+
+pub returns : goal.returns
+returns c = cc
