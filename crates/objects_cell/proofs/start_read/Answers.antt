@@ -33,7 +33,7 @@ returns-then-not-is_fine c =
     let clock = c.inc-clock.ensures ∙ ap (λ (x : Thread). inc_of x.clock a.active) c.get.ensures in
     let track = c.track_read-track.ensures ∙ ap (λ (k : Clock). track_read k s) clock in
     let used = sym c.is_misuse.ensures ∙ c.if-is_misuse.false in
-    let races = sym (ap is_fine track) ∙ sym c.is_fine.ensures ∙ not-true _ c.if-not-is_fine.true in
+    let races = sym (ap is_fine track) ∙ sym c.is_fine.ensures ∙ c.if-not-is_fine.true in
     let e : doing StartRead a.active by s ≡ fails (track_read (inc_of by a.active) s) s = accessing_raced _ _ _ _ _ used races in
     c.fails-then-not-is_fine.ensures a.active
     ∙ ap (λ (x : Ending). left a.active (fails x s) a.threads) track
@@ -48,7 +48,7 @@ returns c =
     let clock = c.inc-clock.ensures ∙ ap (λ (x : Thread). inc_of x.clock a.active) c.get.ensures in
     let track = c.track_read-track.ensures ∙ ap (λ (k : Clock). track_read k s) clock in
     let used = sym c.is_misuse.ensures ∙ c.if-is_misuse.false in
-    let fine = sym (ap is_fine track) ∙ sym c.is_fine.ensures ∙ not-false _ c.if-not-is_fine.false in
+    let fine = sym (ap is_fine track) ∙ sym c.is_fine.ensures ∙ c.if-not-is_fine.false in
     let e : doing StartRead a.active by s ≡ does Kept (read (risen 65535 s.is_reading) (inc_of by a.active) s) (raises ∷ []) = accessing_went _ _ _ _ _ used fine in
     let state = c.read.ensures ∙ (λ i. read (c.one_more.ensures i) (clock i) s) in
     c.accessed.ensures a.active

@@ -29,7 +29,7 @@ pub loop-k-init : goal.loop-k-init
 loop-k-init c = let a = c.args in (search rules, ap (λ (n : ℕ). all-unparked a.active (take n a.waiters) a.threads) (sub-zero a.count))
 
 pub loop-k-smaller : goal.loop-k-smaller
-loop-k-smaller c = omega (arith, ltb-true)
+loop-k-smaller c = omega (arith)
 
 pub loop-k-preserved : goal.loop-k-preserved
 loop-k-preserved c =
@@ -37,7 +37,7 @@ loop-k-preserved c =
     let a = c.args in
     let ws : List ThreadId = a.waiters in
     let n : length ws ≡ max_waiters = search rules in
-    let room : l.k < max_waiters = ltb-true _ _ c.if-k-lt-WAITERS.true in
+    let room : l.k < max_waiters = c.if-k-lt-WAITERS.true in
     (omega arith, turn _ ws _ _ _ _ _ (omega arith) (omega arith) c.unpark_thread-next.ensures ∙ l.invariant.1)
 
 pub returns-else-k-lt-WAITERS : goal.returns-else-k-lt-WAITERS
@@ -46,7 +46,7 @@ returns-else-k-lt-WAITERS c =
     let a = c.args in
     let ws : List ThreadId = a.waiters in
     let n : length ws ≡ max_waiters = search rules in
-    let past : max_waiters ≤ l.k = ltb-false _ _ c.if-k-lt-WAITERS.false in
+    let past : max_waiters ≤ l.k = c.if-k-lt-WAITERS.false in
     let all : drop l.k ws ≡ [] = drop_of_length-le ws {i = l.k} (omega arith) in
     sym (ap (λ (vs : List ThreadId). all-unparked a.active vs l.out) (ap (take (a.count - l.k)) all ∙ take-nil (a.count - l.k))) ∙ l.invariant.1
 

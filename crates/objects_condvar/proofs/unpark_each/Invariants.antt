@@ -20,3 +20,6 @@ all-unparked active ws ts = touched active (map unparks ws) ts
 
 abbrev pub invariant-loop-k : goal.invariant-loop-k
 invariant-loop-k l = (l.k ≤ max_waiters) × (all-unparked l.active (take (l.n - l.k) (drop l.k l.waiters)) l.out ≡ all-unparked l.active (take l.n l.waiters) l.initial.out)
+
+abbrev pub decreases-loop-k : goal.decreases-loop-k
+decreases-loop-k l = max_waiters - l.k
