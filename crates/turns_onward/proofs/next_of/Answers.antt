@@ -1,0 +1,9 @@
+-- `next_of` meets its contract.
+use borrow.Author.Rules.{rules}
+use Rattle.turns_onward.proofs.next_of.Goals as goal
+
+pub returns-in-On : goal.returns-in-On
+returns-in-On c = rw c.in-On.is
+
+pub returns-in-Nowhere : goal.returns-in-Nowhere
+returns-in-Nowhere c = rw c.in-Nowhere.is
