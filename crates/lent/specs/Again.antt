@@ -5,8 +5,8 @@
 use Rattle.std.specs.Prelude.{◌≡◌, ℕ, [], ◌∷◌, List}
 use Rattle.std.proofs.Common.{ap}
 use seplogic.Ra.Ura.{Ura}
-use seplogic.Ra.TreeShare.{full_share}
-use mir.Syntax.{Name, Opd as Operand, Place, named, call}
+use base.Fraction.{full_share}
+use mir.Syntax.{Callee as Name, Opd as Operand, Place, named, call}
 use mir.Val.{Val, vunit, vptr}
 use base.Logic.{SProp, ent, sep, ex, guard, emp, id⊢}
 use base.Fml.{Fml, GName, Lft, Share, ftrue, flft, fres}

@@ -5,8 +5,8 @@
 --     code         the MIR of `f`        gives     `f` meets its contract, where `g` meets its own
 use Rattle.std.specs.Prelude.{◌≡◌, refl, ℕ, [], ◌∷◌, List, T}
 use seplogic.Ra.Ura.{Ura}
-use seplogic.Ra.TreeShare.{full_share}
-use mir.Syntax.{Name, Sym, Ty, Written, Fn, named, mut, ty_ref, ty_struct, tcons, tnil, deref, field, place, copy, local, value_local, seq, assign, call, return, rv_opd}
+use base.Fraction.{full_share}
+use mir.Syntax.{Callee as Name, Sym, Ty, Written, Fn, named, mut, ty_ref, ty_struct, tcons, tnil, deref, field, place, copy, local, value_local, seq, assign, call, return, rv_opd}
 use mir.Val.{Val, vptr, vstruct, vcons, vnil, has_ty, WT}
 use base.Logic.{SProp, ent, sep, emp, via, fst∗, snd∗, ex_e, id⊢}
 use Rattle.std.specs.Coded.{Coded}
@@ -78,6 +78,8 @@ module _ (P R : Datum) (S : Answer P R) where
   code g = record {
     lifetimes = 1;
     outlives = [];
+    ty_params = [];
+    givens = 0;
     params = 1;
     locals = local R.ty value_local ∷ local (ty_ref (named 0) mut (pointee P.written)) value_local ∷ local (ty_of P R S) value_local ∷ local P.ty value_local ∷ [];
     body = seq (assign (place 3 []) (rv_opd (copy (place 1 (deref P.ty ∷ [])))))
@@ -115,8 +117,8 @@ module _ (P R : Datum) (S : Answer P R) where
         abbrev to_callee : Callee.Ghost
         to_callee = ((tt, tt, tt, (h, tt), (vals P h, tt)), tt)
 
-        goes_callee : ent 𝓤 (sep 𝓤 (sem 𝓛 ((row P).own h (vals P h))) (emp 𝓤)) (Callee.pre to_callee)
-        goes_callee = qed 𝓛 (‵ ((row P).own h (vals P h)) ∷ raw (emp 𝓤) ∷ []) ∵ nothing ! $ move ! (1 ∷ 0 ∷ []) $ join ! $ nothing ! $ join ! $ frame ! $ done !
+        goes_callee : ent 𝓤 (sep 𝓤 (sem 𝓛 ((row P).own_val h (vals P h))) (emp 𝓤)) (Callee.pre to_callee)
+        goes_callee = qed 𝓛 (‵ ((row P).own_val h (vals P h)) ∷ raw (emp 𝓤) ∷ []) ∵ nothing ! $ move ! (1 ∷ 0 ∷ []) $ join ! $ nothing ! $ join ! $ frame ! $ done !
 
         exits : (r : P.D) (w : R.D) → Q h r w → Is (row R) w (vals R w) → ent 𝓤 (sep 𝓤 (A.obs γ ((row P).coded.code r)) (sep 𝓤 (A.bor κ (Body (mem (row P)) b o γ)) (A.lft κ q))) (Post (R.val w))
         exits r w e is =
@@ -138,7 +140,7 @@ module _ (P R : Datum) (S : Answer P R) where
               assigns ! (of_opd ! (load ! (from ! (hop ! (look ! 11 refl) (stop !))) (look_raw ! 0 refl))) (from ! (stop !)) (init ! 7 refl (P.typed 𝓛 h _ was)) $
               use0 𝓛 (raw (emp 𝓤)) (id⊢ 𝓤 (emp 𝓤)) $ owned ! (row P) (Is (row P)) (P.makes 𝓛) h _ was $ use2 𝓛 (raw (Callee.pre to_callee)) goes_callee $
               calls_at ! fm Callee known to_callee (and_then ! (load ! (from ! (stop !)) (look ! 8 refl)) (no_more !)) (λ v.
-              use1 𝓛 (later (some (λ (r : S.D). (‵ ftrue ⊛ ‵ ((row_of P R S).own r (v ∷ []))) ⊛ raw (ensured 𝓛 by_value value_clauses tt (h, tt) tt r)))) (id⊢ 𝓤 _) $ await ! tt $ pick ! (λ r.
+              use1 𝓛 (later (some (λ (r : S.D). (‵ ftrue ⊛ ‵ ((row_of P R S).own_val r (v ∷ []))) ⊛ raw (ensured 𝓛 by_value value_clauses tt (h, tt) tt r)))) (id⊢ 𝓤 _) $ await ! tt $ pick ! (λ r.
               split ! $ move ! (1 ∷ []) $ use1 𝓛 (raw (fact 𝓤 (Q h (S.left r) (S.right r)))) (got_of h r) $ heard ! (Q h (S.left r) (S.right r)) (λ e. split ! $ drop ! $
               peeks ! (row_of P R S) (Is (row_of P R S)) (shows 𝓛 (row_of P R S)) r (v ∷ []) (λ is.
               -- [what r owns; the cell; what h owns; the open borrow; obs; auth; true; true; _3; …; _2; …; _1; …; room for _0; …]

@@ -7,10 +7,10 @@
 use Rattle.std.specs.Prelude.{◌≡◌, refl, Bool, true, false, ℕ, ◌<◌, [], ◌∷◌, List}
 use Rattle.std.proofs.Common.{ap, subst}
 use seplogic.Ra.Ura.{Ura}
-use seplogic.Ra.TreeShare.{full_share}
+use base.Fraction.{full_share}
 use lib.WfN.{lt-wf_rel}
 use lib.NonEmpty.{one}
-use mir.Syntax.{Name, Ty, Body, Fn, named, erased, mut, ty_unit, ty_bool, ty_ref, deref, place, copy, opd_unit, local, value_local, seq, assign, cond, skip, call, return, rv_opd, addr_of}
+use mir.Syntax.{Callee as Name, Ty, Body, Fn, named, erased, mut, ty_unit, ty_bool, ty_ref, deref, place, copy, opd_unit, local, value_local, seq, assign, cond, skip, call, return, rv_opd, addr_of}
 use mir.Val.{Val, vunit, vbool, vptr}
 use base.Logic.{SProp, ent, sep, emp, id⊢}
 use base.Fml.{Fml, GName, Lft, Share, ftrue, flft, fat, froom, fdies}
@@ -72,6 +72,8 @@ module _ (P : Datum) where
   code g f = record {
     lifetimes = 1;
     outlives = [];
+    ty_params = [];
+    givens = 0;
     params = 1;
     locals = local ty_unit value_local ∷ local lent_ty value_local ∷ local ty_bool value_local ∷ local again_ty value_local ∷ local ty_unit value_local ∷ local again_ty value_local ∷ [];
     body = seq (assign (place 3 []) (addr_of (place 1 (deref P.ty ∷ [])))) (seq (call g (copy (place 3 []) ∷ []) (place 2 [])) (branch_code f));
@@ -172,7 +174,7 @@ module _ (P : Datum) where
             use2 𝓛 (later (some (λ (δ : GName). ‵ (own_at (α ∷ []) δ h) ⊛ ‵ (LentAgain (row P) κ (α ∷ []) q γ b o δ h)))) (lends_again 𝓛 (row P) (named 0) κ (α ∷ []) q γ b o (named 0) h) $ await ! tt $ pick ! (λ δ. split ! $
             move ! (2 ∷ 0 ∷ []) $ use2 𝓛 (raw (Callee.pre (to_callee α δ))) (goes_callee α δ) $
             calls_at ! fm Callee known (to_callee α δ) (and_then ! (load ! (from ! (stop !)) (look ! 8 refl)) (no_more !)) (λ v.
-            use1 𝓛 (later (some (λ (a : Bool). ((‵ (flft (α ∷ []) full_share) ⊛ ‵ ftrue) ⊛ ‵ ((row flag).own a (v ∷ []))) ⊛ raw (ensured 𝓛 (asks.by_ref P flag) (asks.ref_clauses P flag 𝓤 Turn) (α ∷ [], tt) (ref δ h, tt) tt a)))) (id⊢ 𝓤 _) $ await ! tt $ pick ! (λ a.
+            use1 𝓛 (later (some (λ (a : Bool). ((‵ (flft (α ∷ []) full_share) ⊛ ‵ ftrue) ⊛ ‵ ((row flag).own_val a (v ∷ []))) ⊛ raw (ensured 𝓛 (asks.by_ref P flag) (asks.ref_clauses P flag 𝓤 Turn) (α ∷ [], tt) (ref δ h, tt) tt a)))) (id⊢ 𝓤 _) $ await ! tt $ pick ! (λ a.
             split ! $ move ! (1 ∷ []) $ use1 𝓛 (some (λ (ws : P.D × Unit {0}). ‵ (lasts (asks.by_ref P flag) (α ∷ [], tt) (ref δ h, tt) ws) ⊛ raw (fact 𝓤 (Turn h ws.0 a)))) (id⊢ 𝓤 _) $ pick ! (λ ws.
             split ! $ move ! (1 ∷ []) $ heard ! (Turn h ws.0 a) (λ e. fsplit ! $ move ! (2 ∷ []) $ split ! $ move ! (1 ∷ []) $
             peeks ! (row flag) (Is (row flag)) (shows 𝓛 (row flag)) a (v ∷ []) (λ is.

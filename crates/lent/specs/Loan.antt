@@ -4,8 +4,8 @@
 -- The local is lent for a lifetime that is made for the call, and is back, at its last value, once that lifetime is over.
 use Rattle.std.specs.Prelude.{◌≡◌, refl, ℕ, [], ◌∷◌, List}
 use seplogic.Ra.Ura.{Ura}
-use seplogic.Ra.TreeShare.{full_share}
-use mir.Syntax.{Name, Fn, named, erased, mut, ty_unit, ty_ref, place, copy, local, value_local, memory_slot, seq, assign, call, return, rv_opd, addr_of}
+use base.Fraction.{full_share}
+use mir.Syntax.{Callee as Name, Fn, named, erased, mut, ty_unit, ty_ref, place, copy, local, value_local, memory_slot, seq, assign, call, return, rv_opd, addr_of}
 use mir.Val.{Val, vptr}
 use base.Logic.{SProp, ent, sep, guard, id⊢}
 use base.Fml.{GName, ftrue, fsep, flft, fat, flent}
@@ -50,7 +50,7 @@ module _ (P : Datum) {M : Type 1} {𝓤 : Ura M} (𝓛 : Logic 𝓤) where
   unfolding part_of
   lie h is b o =
       qed 𝓛 (‵ (fat full_share P.ty b o (P.val h)) ∷ []) ∵ use1 𝓛 (‵ (cell_at full_share (row P).mir (vals P h) b o)) (𝓛.laws.at_raw full_share P.ty b o (P.val h)) $
-      owned ! (row P) (Is (row P)) (P.makes 𝓛) h _ is $ move ! (1 ∷ 0 ∷ []) $ fjoin ! $ fpack ! (List Val) (λ us. fsep (cell_at full_share (row P).mir us b o) ((row P).own h us)) (vals P h) $ done !
+      owned ! (row P) (Is (row P)) (P.makes 𝓛) h _ is $ move ! (1 ∷ 0 ∷ []) $ fjoin ! $ fpack ! (List Val) (λ us. fsep (cell_at full_share (row P).mir us b o) ((row P).own_val h us)) (vals P h) $ done !
 
   unlie : (h : P.D) (b o : ℕ) → ent 𝓤 (sem 𝓛 ((mem (row P)).own_at h b o)) (guard 𝓤 (Is (row P) h (vals P h)) (H.at full_share P.ty b o (P.val h)))
   unfolding part_of
@@ -66,6 +66,8 @@ module _ (P : Datum) where
   code g = record {
     lifetimes = 0;
     outlives = [];
+    ty_params = [];
+    givens = 0;
     params = 1;
     locals = local P.ty value_local ∷ local P.ty value_local ∷ local P.ty memory_slot ∷ local ty_unit value_local ∷ local (ty_ref erased mut (pointee P.written)) value_local ∷ [];
     body = seq (assign (place 2 []) (rv_opd (copy (place 1 []))))

@@ -6,8 +6,8 @@
 use Rattle.std.specs.Prelude.{◌≡◌, refl, ℕ, ◌^◌, [], ◌∷◌, List, T, ltb, length}
 use Rattle.std.proofs.Common.{sym, subst}
 use seplogic.Ra.Ura.{Ura}
-use seplogic.Ra.TreeShare.{full_share}
-use mir.Syntax.{Name, Fn, Ty, named, erased, mut, w64, ty_unit, ty_ref, place, copy, int, local, value_local, memory_slot, seq, assign, call, return, rv_opd, addr_of, aggregate}
+use base.Fraction.{full_share}
+use mir.Syntax.{Callee as Name, Fn, Ty, named, erased, mut, w64, ty_unit, ty_ref, place, copy, int, local, value_local, memory_slot, seq, assign, call, return, rv_opd, addr_of, aggregate}
 use mir.Val.{Val}
 use base.Logic.{SProp, ent, sep, guard, emp, via, fst∗, id⊢}
 use base.Fml.{GName, ftrue, fsep, flft, fat, flent}
@@ -56,7 +56,7 @@ module _ (P : Datum) {M : Type 1} {𝓤 : Ura M} (𝓛 : Logic 𝓤) where
   unfolding part_of
   lie h is b o =
       qed 𝓛 (‵ (fat full_share P.ty b o (P.val h)) ∷ []) ∵ use1 𝓛 (‵ (cell_at full_share (row P).mir (vals P h) b o)) (𝓛.laws.at_raw full_share P.ty b o (P.val h)) $
-      owned ! (row P) (Is (row P)) (P.makes 𝓛) h _ is $ move ! (1 ∷ 0 ∷ []) $ fjoin ! $ fpack ! (List Val) (λ us. fsep (cell_at full_share (row P).mir us b o) ((row P).own h us)) (vals P h) $ done !
+      owned ! (row P) (Is (row P)) (P.makes 𝓛) h _ is $ move ! (1 ∷ 0 ∷ []) $ fjoin ! $ fpack ! (List Val) (λ us. fsep (cell_at full_share (row P).mir us b o) ((row P).own_val h us)) (vals P h) $ done !
 
   unlie : (h : P.D) (b o : ℕ) → ent 𝓤 (sem 𝓛 ((mem (row P)).own_at h b o)) (guard 𝓤 (Is (row P) h (vals P h)) (H.at full_share P.ty b o (P.val h)))
   unfolding part_of
@@ -84,6 +84,8 @@ module _ (P X : Datum) where
     code g = record {
       lifetimes = 0;
       outlives = [];
+      ty_params = [];
+      givens = 0;
       params = 2;
       locals = local all.ty value_local ∷ local all.ty value_local ∷ local X.ty value_local ∷ local all.ty memory_slot ∷ local ty_unit value_local ∷ local (ty_ref erased mut (pointee all.written)) value_local ∷ local slice value_local ∷ [];
       body = seq (assign (place 3 []) (rv_opd (copy (place 1 []))))

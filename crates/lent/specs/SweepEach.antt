@@ -17,8 +17,8 @@ use mathlib.Core.List.{[], ◌∷◌, List}
 use Rattle.std.proofs.Math.ListN.{set}
 use lib.WfN.{lt-wf_rel}
 use seplogic.Ra.Ura.{Ura}
-use seplogic.Ra.TreeShare.{full_share}
-use mir.Syntax.{Name, Fn, Body as Code, Ty, named, erased, mut, w64, ty_int, ty_bool, ty_ptr, ty_ref, ty_unit, deref, field, place, unsigned, copy, int, opd_unit, local, value_local, skip, seq, assign, block, loop, cond, exit, return, call, rv_opd, addr_of, op2, add, mul, lt, offset}
+use base.Fraction.{full_share}
+use mir.Syntax.{Callee as Name, Fn, Body as Code, Ty, named, erased, mut, w64, ty_int, ty_bool, ty_ptr, ty_ref, ty_unit, deref, field, place, unsigned, copy, int, opd_unit, local, value_local, skip, seq, assign, block, loop, cond, exit, return, call, rv_opd, addr_of, op2, add, mul, lt, offset}
 use mir.Val.{Val, vunit, vbool, vint, vptr}
 use base.Logic.{SProp, ent, sep, emp, via, fst∗, id⊢}
 use base.Fml.{GName, Lft, Share, ftrue, flft, fobs, fauth, fbor, fobor, flent, fat, froom, fdies}
@@ -102,6 +102,8 @@ module _ (P X : Datum) where
     code = record {
       lifetimes = 1;
       outlives = [];
+      ty_params = [];
+      givens = 0;
       params = 2;
       locals = local ty_unit value_local ∷ local slice value_local ∷ local X.ty value_local ∷ local (ty_int w64) value_local ∷ local (ty_int w64) value_local ∷ local ty_bool value_local ∷ local ty_unit value_local ∷ local ty_ptr value_local ∷ local ref_ty value_local ∷ [];
       body = seq (assign (place 3 []) (rv_opd (int w64 0))) (seq (block (loop turn_code)) rest-code);
