@@ -81,5 +81,5 @@ module _ (P : Datum) {M : Type 1} {𝓤 : Ura M} (𝓛 : Logic 𝓤) where
           qed 𝓛 (raw (Callee.post bound v) ∷ []) ∵ updating ! $
           use1 𝓛 (later (some (λ (u : Unit {0}). ((‵ (flft (α ∷ []) full_share) ⊛ ‵ ftrue) ⊛ ‵ (unit.own_val u (v ∷ []))) ⊛ raw (ensured 𝓛 (by_ref P) clauses (α ∷ [], tt) args tt u)))) (id⊢ 𝓤 _) $ await ! tt $ pick ! (λ u.
           split ! $ move ! (1 ∷ []) $ use1 𝓛 (some (λ (ws : P.D × Unit {0}). ‵ (lasts (by_ref P) (α ∷ [], tt) args ws) ⊛ raw (fact 𝓤 (ws.0 ≡ change h)))) (id⊢ 𝓤 _) $ pick ! (λ ws.
-          split ! $ move ! (1 ∷ []) $ heard ! (ws.0 ≡ change h) (λ e. fsplit ! $ move ! (2 ∷ []) $ split ! $ move ! (1 ∷ []) $ feq_l ! (λ w.
+          split ! $ move ! (1 ∷ []) $ heard ! (ws.0 ≡ change h) (λ e. fsplit ! $ fsplit ! $ move ! (1 ∷ []) $ drop ! $ move ! (2 ∷ []) $ split ! $ move ! (1 ∷ []) $ feq_l ! (λ w.
           at_once ! $ show ! (Back (λ r. r ≡ change h) α δ v) ws.0 $ check ! (ap only w, e) $ split ! $ keep ! (0 ∷ 2 ∷ []) $ done !))))

@@ -155,7 +155,7 @@ module _ (P : Datum) where
               calls_from_last ! fm (raw (Self.pre (to_self α δ x))) (vptr b o ∷ []) (Self.post (to_self α δ x)) (self (to_self α δ x) (turning.falls h x need e)) (and_then ! (load ! (from ! (stop !)) (look ! 2 refl)) (no_more !)) (λ v.
               use1 𝓛 (later (some (λ (u : Unit {0}). ((‵ (flft (α ∷ []) full_share) ⊛ ‵ ftrue) ⊛ ‵ (unit.own_val u (v ∷ []))) ⊛ raw (ensured 𝓛 (by_ref P) (ref_clauses 𝓤 Need Ends) (α ∷ [], tt) (ref δ x, tt) tt u)))) (id⊢ 𝓤 _) $ await ! tt $ pick ! (λ u.
               split ! $ move ! (1 ∷ []) $ use1 𝓛 (some (λ (ws : P.D × Unit {0}). ‵ (lasts (by_ref P) (α ∷ [], tt) (ref δ x, tt) ws) ⊛ raw (fact 𝓤 (Ends x ws.0)))) (id⊢ 𝓤 _) $ pick ! (λ ws.
-              split ! $ move ! (1 ∷ []) $ heard ! (Ends x ws.0) (λ e'. fsplit ! $ move ! (2 ∷ []) $ split ! $ move ! (1 ∷ []) $
+              split ! $ move ! (1 ∷ []) $ heard ! (Ends x ws.0) (λ e'. fsplit ! $ fsplit ! $ move ! (1 ∷ []) $ drop ! $ move ! (2 ∷ []) $ split ! $ move ! (1 ∷ []) $
               peeks ! unit (Is unit) (shows 𝓛 unit) u (v ∷ []) (λ is. land_last ! (from ! (stop !)) (init ! 7 refl ((Nothing-Lawful 𝓛).typed u _ is).0) $ exec ! C Λ E rest-code (at_ret E Post) $
               -- the lifetime is ended, and the reference comes back at its last value
               move ! (1 ∷ []) $ split ! $ lft_end ! tt $ move ! (0 ∷ 5 ∷ 3 ∷ []) $
@@ -176,7 +176,7 @@ module _ (P : Datum) where
             calls_at ! fm Callee known (to_callee α δ) (and_then ! (load ! (from ! (stop !)) (look ! 8 refl)) (no_more !)) (λ v.
             use1 𝓛 (later (some (λ (a : Bool). ((‵ (flft (α ∷ []) full_share) ⊛ ‵ ftrue) ⊛ ‵ ((row flag).own_val a (v ∷ []))) ⊛ raw (ensured 𝓛 (asks.by_ref P flag) (asks.ref_clauses P flag 𝓤 Turn) (α ∷ [], tt) (ref δ h, tt) tt a)))) (id⊢ 𝓤 _) $ await ! tt $ pick ! (λ a.
             split ! $ move ! (1 ∷ []) $ use1 𝓛 (some (λ (ws : P.D × Unit {0}). ‵ (lasts (asks.by_ref P flag) (α ∷ [], tt) (ref δ h, tt) ws) ⊛ raw (fact 𝓤 (Turn h ws.0 a)))) (id⊢ 𝓤 _) $ pick ! (λ ws.
-            split ! $ move ! (1 ∷ []) $ heard ! (Turn h ws.0 a) (λ e. fsplit ! $ move ! (2 ∷ []) $ split ! $ move ! (1 ∷ []) $
+            split ! $ move ! (1 ∷ []) $ heard ! (Turn h ws.0 a) (λ e. fsplit ! $ fsplit ! $ move ! (1 ∷ []) $ drop ! $ move ! (2 ∷ []) $ split ! $ move ! (1 ∷ []) $
             peeks ! (row flag) (Is (row flag)) (shows 𝓛 (row flag)) a (v ∷ []) (λ is.
             -- [the answer; the token; the last value; true; what is kept of the reference; true; true; _5; …; _4; …; _3; …; _2; …; _1; …; room for _0; …]
             land ! (from ! (stop !)) (init ! 13 refl (flag.typed 𝓛 a _ is)) $ rewrite ! 13 (λ (w : Val). ‵ (fat full_share ty_bool l₂ 0 w)) (ap only (flag.tells a (v ∷ []) is)) refl $

@@ -121,7 +121,7 @@ module _ (P : Datum) where
             calls_at ! fm Callee known (to_callee α l₂ γ) (and_then ! (load ! (from ! (stop !)) (look ! 2 refl)) (no_more !)) (λ v.
             use1 𝓛 (later (some (λ (u : Unit {0}). ((‵ (flft (α ∷ []) full_share) ⊛ ‵ ftrue) ⊛ ‵ (unit.own_val u (v ∷ []))) ⊛ raw (ensured 𝓛 (by_ref P) (ref_clauses P 𝓤 Need Ends) (α ∷ [], tt) (ref l₂ γ, tt) tt u)))) (id⊢ 𝓤 _) $ await ! tt $ pick ! (λ u.
             split ! $ move ! (1 ∷ []) $ use1 𝓛 (some (λ (ws : P.D × Unit {0}). ‵ (lasts (by_ref P) (α ∷ [], tt) (ref l₂ γ, tt) ws) ⊛ raw (fact 𝓤 (Ends h ws.0)))) (id⊢ 𝓤 _) $ pick ! (λ ws.
-            split ! $ move ! (1 ∷ []) $ heard ! (Ends h ws.0) (λ e. fsplit ! $ move ! (2 ∷ []) $ split ! $ move ! (1 ∷ []) $
+            split ! $ move ! (1 ∷ []) $ heard ! (Ends h ws.0) (λ e. fsplit ! $ fsplit ! $ move ! (1 ∷ []) $ drop ! $ move ! (2 ∷ []) $ split ! $ move ! (1 ∷ []) $
             peeks ! unit (Is unit) (shows 𝓛 unit) u (v ∷ []) (λ is. land ! (from ! (stop !)) (init ! 7 refl ((Nothing-Lawful 𝓛).typed u _ is).0) $
             -- the lifetime is ended, and the local is back at its last value
             move ! (1 ∷ []) $ split ! $ lft_end ! tt $ move ! (0 ∷ 5 ∷ 3 ∷ []) $ use3 𝓛 (later (‵ ((mem (row P)).own_at ws.0 l₂ 0))) (ref_back 𝓛 (row P) (α ∷ []) γ ws.0 l₂ 0) $ await ! tt $

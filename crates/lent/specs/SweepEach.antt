@@ -211,7 +211,7 @@ module _ (P X : Datum) where
               (and_then ! (load ! (from ! (stop !)) (look ! 8 refl)) (and_then ! (load ! (from ! (stop !)) (look ! 3 refl)) (and_then ! (load ! (from ! (stop !)) (look ! 10 refl)) (no_more !)))) (λ v.
               use1 𝓛 (later (some (λ (u : Unit {0}). ((‵ (flft (α ∷ []) full_share) ⊛ ‵ ftrue) ⊛ ‵ (unit.own_val u (v ∷ []))) ⊛ raw (ensured 𝓛 by_ref ref_clauses (α ∷ [], tt) (ref h p δ, (i, (x, tt))) tt u)))) (id⊢ 𝓤 _) $ await ! tt $ pick ! (λ u.
               split ! $ move ! (1 ∷ []) $ use1 𝓛 (some (λ (ws : P.D × (Unit {0} × (Unit {0} × Unit {0}))). ‵ (lasts by_ref (α ∷ [], tt) (ref h p δ, (i, (x, tt))) ws) ⊛ raw (fact 𝓤 (ws.0 ≡ step i h)))) (id⊢ 𝓤 _) $ pick ! (λ ws.
-              split ! $ move ! (1 ∷ []) $ heard ! (ws.0 ≡ step i h) (λ e. fsplit ! $ move ! (2 ∷ []) $ split ! $ move ! (1 ∷ []) $
+              split ! $ move ! (1 ∷ []) $ heard ! (ws.0 ≡ step i h) (λ e. fsplit ! $ fsplit ! $ move ! (1 ∷ []) $ drop ! $ move ! (2 ∷ []) $ split ! $ move ! (1 ∷ []) $
               peeks ! unit (Is unit) (shows 𝓛 unit) u (v ∷ []) (λ is. land ! (from ! (stop !)) (init ! 9 refl ((Nothing-Lawful 𝓛).typed u _ is).0) $
               -- the lifetime is ended, and the element goes back into the row at its last value
               move ! (1 ∷ []) $ split ! $ lft_end ! tt $ move ! (0 ∷ 5 ∷ 3 ∷ []) $ use3 𝓛 (later (‵ ((mem (row P)).own_at ws.0 b p))) (ref_back 𝓛 (row P) (α ∷ []) δ ws.0 b p) $ await ! tt $
