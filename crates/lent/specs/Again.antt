@@ -13,7 +13,7 @@ use base.Fml.{Fml, GName, Lft, Share, ftrue, flft, fres}
 use prog.Wp.{Env, Calls, Loops}
 use types.Logic.{Logic, sem}
 use contract.Monad.{fact}
-use types.Kit.{Item, Post, Seq, runs, settles, ‵, raw, some, given, later, ◌⊛◌, ◌$◌, ◌∵◌, !, qed, move, keep, use1, use2, use3, split, join, pick, learn, check, show, fsplit, fjoin, feq_l, frame, await, updating, now as at_once, done}
+use types.Kit.{Item, Post, Seq, runs, settles, ‵, raw, some, given, later, ◌⊛◌, ◌$◌, ◌∵◌, !, qed, move, keep, drop, use1, use2, use3, split, join, pick, learn, check, show, fsplit, fjoin, feq_l, frame, await, updating, now as at_once, done}
 use types.Run.{Opds}
 use types.Tokens.{lft_new, lft_end}
 use sound.WpLaws.{FmC}

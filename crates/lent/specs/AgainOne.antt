@@ -9,7 +9,7 @@ use base.Logic.{ent, sep, ex, emp, id⊢}
 use base.Fml.{GName, ftrue, flft}
 use types.Logic.{Logic, sem}
 use contract.Monad.{fact}
-use types.Kit.{‵, raw, some, later, ◌⊛◌, ◌$◌, ◌∵◌, !, qed, move, keep, use1, split, join, pick, check, show, fsplit, fjoin, feq_l, frame, await, updating, now as at_once, done}
+use types.Kit.{‵, raw, some, later, ◌⊛◌, ◌$◌, ◌∵◌, !, qed, move, keep, drop, use1, split, join, pick, check, show, fsplit, fjoin, feq_l, frame, await, updating, now as at_once, done}
 use denote.Laws.{Is}
 use Rattle.std.specs.Borrow.{unit, MutBor}
 use denote.Steps.{only, owned, heard, nothing}

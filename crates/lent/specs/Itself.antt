@@ -20,7 +20,7 @@ use prog.Wp.{Env, Calls, Loops, WpFn, Tables, Closed}
 use types.Logic.{Logic, sem}
 use contract.Monad.{fact, Fun}
 use contract.Running.{Running, tables, tables_of}
-use types.Kit.{Item, ‵, raw, some, later, ◌⊛◌, ◌$◌, ◌∵◌, !, Sq, qed, by, at_ret, runs, move, keep, use0, use1, use2, use3, split, join, pick, rewrite, fsplit, fjoin, feq_i, suffices, frame, await, done}
+use types.Kit.{Item, ‵, raw, some, later, ◌⊛◌, ◌$◌, ◌∵◌, !, Sq, qed, by, at_ret, runs, move, keep, drop, use0, use1, use2, use3, split, join, pick, rewrite, fsplit, fjoin, feq_i, suffices, frame, await, done}
 use types.Run.{look, init, forget, stop, hop, from, load, addr, unit_lit, of_opd, and_then, no_more, assigns, first, branches, skips, land, land_last, exec, returns, enter, alloc1, alloc0, params1, pass1, pass0, free1, free0}
 use types.Tokens.{lft_new, lft_end}
 use sound.WpLaws.{FmC, fm_of, WpFn-mono}

@@ -162,7 +162,7 @@ module _ (P X : Datum) where
                 calls_at ! fm Callee known (to_callee α l₃ γ) (and_then ! (load ! (from ! (stop !)) (look ! 2 refl)) (and_then ! (load ! (from ! (stop !)) (look ! 9 refl)) (no_more !))) (λ v.
                 use1 𝓛 (later (some (λ (u : Unit {0}). ((‵ (flft (α ∷ []) full_share) ⊛ ‵ ftrue) ⊛ ‵ (unit.own_val u (v ∷ []))) ⊛ raw (ensured 𝓛 by-slice slice-clauses (α ∷ [], tt) (ref l₃ γ, (x, tt)) tt u)))) (id⊢ 𝓤 _) $ await ! tt $ pick ! (λ u.
                 split ! $ move ! (1 ∷ []) $ use1 𝓛 (some (λ (ws : List P.D × (Unit {0} × Unit {0})). ‵ (lasts by-slice (α ∷ [], tt) (ref l₃ γ, (x, tt)) ws) ⊛ raw (fact 𝓤 (ws.0 ≡ change x xs)))) (id⊢ 𝓤 _) $ pick ! (λ ws.
-                split ! $ move ! (1 ∷ []) $ heard ! (ws.0 ≡ change x xs) (λ e. fsplit ! $ move ! (2 ∷ []) $ split ! $ move ! (1 ∷ []) $
+                split ! $ move ! (1 ∷ []) $ heard ! (ws.0 ≡ change x xs) (λ e. fsplit ! $ fsplit ! $ move ! (1 ∷ []) $ drop ! $ move ! (2 ∷ []) $ split ! $ move ! (1 ∷ []) $
                 peeks ! unit (Is unit) (shows 𝓛 unit) u (v ∷ []) (λ is. land ! (from ! (stop !)) (init ! 9 refl ((Nothing-Lawful 𝓛).typed u _ is).0) $
                 -- the lifetime is ended, and the local is back at its last elements
                 move ! (1 ∷ []) $ split ! $ lft_end ! tt $ move ! (3 ∷ []) $ fsplit ! $ move ! (2 ∷ 6 ∷ 0 ∷ []) $
