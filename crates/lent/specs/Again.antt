@@ -5,15 +5,15 @@
 use Rattle.std.specs.Prelude.{◌≡◌, ℕ, [], ◌∷◌, List}
 use Rattle.std.proofs.Common.{ap}
 use seplogic.Ra.Ura.{Ura}
-use seplogic.Ra.TreeShare.{full_share}
-use mir.Syntax.{Name, Opd as Operand, Place, named, call}
+use base.Fraction.{full_share}
+use mir.Syntax.{Callee as Name, Opd as Operand, Place, named, call}
 use mir.Val.{Val, vunit, vptr}
 use base.Logic.{SProp, ent, sep, ex, guard, emp, id⊢}
 use base.Fml.{Fml, GName, Lft, Share, ftrue, flft, fres}
 use prog.Wp.{Env, Calls, Loops}
 use types.Logic.{Logic, sem}
 use contract.Monad.{fact}
-use types.Kit.{Item, Post, Seq, runs, settles, ‵, raw, some, given, later, ◌⊛◌, ◌$◌, ◌∵◌, !, qed, move, keep, use1, use2, use3, split, join, pick, learn, check, show, fsplit, fjoin, feq_l, frame, await, updating, now as at_once, done}
+use types.Kit.{Item, Post, Seq, runs, settles, ‵, raw, some, given, later, ◌⊛◌, ◌$◌, ◌∵◌, !, qed, move, keep, drop, use1, use2, use3, split, join, pick, learn, check, show, fsplit, fjoin, feq_l, frame, await, updating, now as at_once, done}
 use types.Run.{Opds}
 use types.Tokens.{lft_new, lft_end}
 use sound.WpLaws.{FmC}
@@ -81,5 +81,5 @@ module _ (P : Datum) {M : Type 1} {𝓤 : Ura M} (𝓛 : Logic 𝓤) where
           qed 𝓛 (raw (Callee.post bound v) ∷ []) ∵ updating ! $
           use1 𝓛 (later (some (λ (u : Unit {0}). ((‵ (flft (α ∷ []) full_share) ⊛ ‵ ftrue) ⊛ ‵ (unit.own_val u (v ∷ []))) ⊛ raw (ensured 𝓛 (by_ref P) clauses (α ∷ [], tt) args tt u)))) (id⊢ 𝓤 _) $ await ! tt $ pick ! (λ u.
           split ! $ move ! (1 ∷ []) $ use1 𝓛 (some (λ (ws : P.D × Unit {0}). ‵ (lasts (by_ref P) (α ∷ [], tt) args ws) ⊛ raw (fact 𝓤 (ws.0 ≡ change h)))) (id⊢ 𝓤 _) $ pick ! (λ ws.
-          split ! $ move ! (1 ∷ []) $ heard ! (ws.0 ≡ change h) (λ e. fsplit ! $ move ! (2 ∷ []) $ split ! $ move ! (1 ∷ []) $ feq_l ! (λ w.
+          split ! $ move ! (1 ∷ []) $ heard ! (ws.0 ≡ change h) (λ e. fsplit ! $ fsplit ! $ move ! (1 ∷ []) $ drop ! $ move ! (2 ∷ []) $ split ! $ move ! (1 ∷ []) $ feq_l ! (λ w.
           at_once ! $ show ! (Back (λ r. r ≡ change h) α δ v) ws.0 $ check ! (ap only w, e) $ split ! $ keep ! (0 ∷ 2 ∷ []) $ done !))))

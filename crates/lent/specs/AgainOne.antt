@@ -3,13 +3,13 @@
 use Rattle.std.specs.Prelude.{◌≡◌, ℕ, [], ◌∷◌}
 use Rattle.std.proofs.Common.{ap}
 use seplogic.Ra.Ura.{Ura}
-use seplogic.Ra.TreeShare.{full_share}
+use base.Fraction.{full_share}
 use mir.Val.{Val, vptr}
 use base.Logic.{ent, sep, ex, emp, id⊢}
 use base.Fml.{GName, ftrue, flft}
 use types.Logic.{Logic, sem}
 use contract.Monad.{fact}
-use types.Kit.{‵, raw, some, later, ◌⊛◌, ◌$◌, ◌∵◌, !, qed, move, keep, use1, split, join, pick, check, show, fsplit, fjoin, feq_l, frame, await, updating, now as at_once, done}
+use types.Kit.{‵, raw, some, later, ◌⊛◌, ◌$◌, ◌∵◌, !, qed, move, keep, drop, use1, split, join, pick, check, show, fsplit, fjoin, feq_l, frame, await, updating, now as at_once, done}
 use denote.Laws.{Is}
 use Rattle.std.specs.Borrow.{unit, MutBor}
 use denote.Steps.{only, owned, heard, nothing}
@@ -45,5 +45,5 @@ module _ (P X : Datum) {M : Type 1} {𝓤 : Ura M} (𝓛 : Logic 𝓤) (change :
         qed 𝓛 (raw (Callee.post bound v) ∷ []) ∵ updating ! $
         use1 𝓛 (later (some (λ (u : Unit {0}). ((‵ (flft (α ∷ []) full_share) ⊛ ‵ ftrue) ⊛ ‵ (unit.own_val u (v ∷ []))) ⊛ raw (ensured 𝓛 (by_ref P X) clauses (α ∷ [], tt) args tt u)))) (id⊢ 𝓤 _) $ await ! tt $ pick ! (λ u.
         split ! $ move ! (1 ∷ []) $ use1 𝓛 (some (λ (ws : P.D × (Unit {0} × Unit {0})). ‵ (lasts (by_ref P X) (α ∷ [], tt) args ws) ⊛ raw (fact 𝓤 (ws.0 ≡ change x h)))) (id⊢ 𝓤 _) $ pick ! (λ ws.
-        split ! $ move ! (1 ∷ []) $ heard ! (ws.0 ≡ change x h) (λ e. fsplit ! $ move ! (2 ∷ []) $ split ! $ move ! (1 ∷ []) $ feq_l ! (λ w.
+        split ! $ move ! (1 ∷ []) $ heard ! (ws.0 ≡ change x h) (λ e. fsplit ! $ fsplit ! $ move ! (1 ∷ []) $ drop ! $ move ! (2 ∷ []) $ split ! $ move ! (1 ∷ []) $ feq_l ! (λ w.
         at_once ! $ show ! (Back P 𝓛 (λ r. r ≡ change x h) α δ v) ws.0 $ check ! (ap only w, e) $ split ! $ keep ! (0 ∷ 2 ∷ []) $ done !))))

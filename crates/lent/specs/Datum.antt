@@ -8,7 +8,8 @@ use seplogic.Ra.Ura.{Ura}
 use mir.Syntax.{Ty, Written, ty_array, ty_bool}
 use mir.Val.{Val, vbool, has_ty, WT}
 use Rattle.std.specs.Coded.{Coded}
-use Rattle.std.specs.Borrow.{Fml, RattleType}
+use base.Fml.{Fml, Lft}
+use denote.RattleType.{RattleType}
 use types.Logic.{Logic}
 use denote.Exit.{unchanged}
 use denote.Laws.{Is, Tells, Makes, Typed}
@@ -23,23 +24,25 @@ use denote.Enum.Declared as Es
 use denote.Enum.Enum.{Plainss, Few}
 use denote.Enum.Laws as EL
 
-abbrev pub type_of : (D : Type 0) → Ty → Written → List (Written × List Ty) → (D → List Val → Fml) → Coded D → RattleType
-type_of D τ w rs own c = record { Denot = D; mir = τ ∷ []; written = w; reaches = rs; own_val = own; exit = λ _. unchanged; coded = c }
+abbrev pub type_of : (D : Type 0) → Ty → Written → List (Written × List Ty) → Lft → (D → List Val → Fml) → Coded D → (D → ℕ → ℕ → Lft → Fml) → RattleType
+type_of D τ w rs κ own c shr = record { Denot = D; mir = τ ∷ []; written = w; reaches = rs; lives = κ; own_val = own; exit = λ _. unchanged; coded = c; shr_at = shr }
 
 pub record Datum : Type 2 where
   pub D : Type 0
   pub ty : Ty
   pub written : Written
   pub reaches : List (Written × List Ty)
+  pub lives : Lft
   pub own : D → List Val → Fml
   pub coded : Coded D
+  pub shr : D → ℕ → ℕ → Lft → Fml
   pub val : D → Val
-  pub tells : Tells (type_of D ty written reaches own coded) (Is (type_of D ty written reaches own coded)) (λ x. val x ∷ [])
-  pub typed : {M : Type 1} {𝓤 : Ura M} (𝓛 : Logic 𝓤) → (x : D) (v : Val) → Is (type_of D ty written reaches own coded) x (v ∷ []) → T (has_ty ty v) × WT v
-  pub makes : {M : Type 1} {𝓤 : Ura M} (𝓛 : Logic 𝓤) → Makes 𝓛 (type_of D ty written reaches own coded) (Is (type_of D ty written reaches own coded))
+  pub tells : Tells (type_of D ty written reaches lives own coded shr) (Is (type_of D ty written reaches lives own coded shr)) (λ x. val x ∷ [])
+  pub typed : {M : Type 1} {𝓤 : Ura M} (𝓛 : Logic 𝓤) → (x : D) (v : Val) → Is (type_of D ty written reaches lives own coded shr) x (v ∷ []) → T (has_ty ty v) × WT v
+  pub makes : {M : Type 1} {𝓤 : Ura M} (𝓛 : Logic 𝓤) → Makes 𝓛 (type_of D ty written reaches lives own coded shr) (Is (type_of D ty written reaches lives own coded shr))
 
 abbrev pub row : Datum → RattleType
-row P = type_of P.D P.ty P.written P.reaches P.own P.coded
+row P = type_of P.D P.ty P.written P.reaches P.lives P.own P.coded P.shr
 
 abbrev pub vals : (P : Datum) → P.D → List Val
 vals P x = P.val x ∷ []
@@ -50,8 +53,10 @@ struct N L pl = record {
   ty = lone (S.row N).mir;
   written = (S.row N).written;
   reaches = (S.row N).reaches;
-  own = (S.row N).own;
+  lives = (S.row N).lives;
+  own = (S.row N).own_val;
   coded = (S.row N).coded;
+  shr = (S.row N).shr_at;
   val = LL.val N L;
   tells = LL.tells N L;
   typed = λ 𝓛 x v is. ((LL.lawful N L 𝓛).typed x (v ∷ []) is).0;
@@ -65,8 +70,10 @@ enum N L pl few = record {
   ty = lone (Es.row N).mir;
   written = (Es.row N).written;
   reaches = (Es.row N).reaches;
-  own = (Es.row N).own;
+  lives = (Es.row N).lives;
+  own = (Es.row N).own_val;
   coded = (Es.row N).coded;
+  shr = (Es.row N).shr_at;
   val = EL.val N L;
   tells = EL.tells N L;
   typed = λ 𝓛 x v is. ((EL.lawful N L 𝓛 few).typed x (v ∷ []) is).0;
@@ -83,8 +90,10 @@ array P n = record {
   ty = ty_array P.ty n;
   written = (Array (row P) n).written;
   reaches = P.reaches;
+  lives = P.lives;
   own = (Array (row P) n).own_val;
   coded = (Array (row P) n).coded;
+  shr = (Array (row P) n).shr_at;
   val = λ xs. array_val (map P.val xs);
   tells = Array-Tells (row P) (vals P) P.tells n;
   typed = λ 𝓛 xs v is. (Array-Typed (row P) (λ x vs p. typed_one P 𝓛 x vs p) n xs (v ∷ []) is).0;
@@ -97,8 +106,10 @@ flag = record {
   ty = ty_bool;
   written = Boolean.written;
   reaches = Boolean.reaches;
-  own = Boolean.own;
+  lives = Boolean.lives;
+  own = Boolean.own_val;
   coded = Boolean.coded;
+  shr = Boolean.shr_at;
   val = vbool;
   tells = bool_Tells;
   typed = λ 𝓛 x v is. ((bool_Lawful 𝓛).typed x (v ∷ []) is).0;

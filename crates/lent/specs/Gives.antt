@@ -5,8 +5,8 @@
 --     code         the MIR of `f`        gives     `f` meets its contract, where `g` meets its own
 use Rattle.std.specs.Prelude.{◌≡◌, refl, ℕ, [], ◌∷◌, List, T}
 use seplogic.Ra.Ura.{Ura}
-use seplogic.Ra.TreeShare.{full_share}
-use mir.Syntax.{Name, Sym, Ty, Written, Fn, named, mut, ty_ref, ty_struct, tcons, tnil, deref, field, place, copy, local, value_local, seq, assign, call, return, rv_opd}
+use base.Fraction.{full_share}
+use mir.Syntax.{Callee as Name, Sym, Ty, Written, Fn, named, mut, ty_ref, ty_struct, tcons, tnil, deref, field, place, copy, local, value_local, seq, assign, call, return, rv_opd}
 use mir.Val.{Val, vptr, vstruct, vcons, vnil, has_ty, WT}
 use base.Logic.{SProp, ent, sep, emp, via, fst∗, snd∗, ex_e, id⊢}
 use Rattle.std.specs.Coded.{Coded}
@@ -45,21 +45,23 @@ pub record Answer (P R : Datum) : Type 2 where
   pub name : Sym
   pub written : Written
   pub reaches : List (Written × List Ty)
+  pub lives : Lft
   pub own : D → List Val → Fml
   pub coded : Coded D
+  pub shr : D → ℕ → ℕ → Lft → Fml
   pub left : D → P.D
   pub right : D → R.D
-  pub spelled : (s : D) (v : Val) → Is (type_of D (ty_struct name (tcons P.ty (tcons R.ty tnil))) written reaches own coded) s (v ∷ []) → v ≡ vstruct (vcons (P.val (left s)) (vcons (R.val (right s)) vnil))
-  pub left_is : (s : D) (v : Val) → Is (type_of D (ty_struct name (tcons P.ty (tcons R.ty tnil))) written reaches own coded) s (v ∷ []) → Is (row P) (left s) (vals P (left s))
-  pub right_is : (s : D) (v : Val) → Is (type_of D (ty_struct name (tcons P.ty (tcons R.ty tnil))) written reaches own coded) s (v ∷ []) → Is (row R) (right s) (vals R (right s))
-  pub typed : {M : Type 1} {𝓤 : Ura M} (𝓛 : Logic 𝓤) → (s : D) (v : Val) → Is (type_of D (ty_struct name (tcons P.ty (tcons R.ty tnil))) written reaches own coded) s (v ∷ [])
+  pub spelled : (s : D) (v : Val) → Is (type_of D (ty_struct name (tcons P.ty (tcons R.ty tnil))) written reaches lives own coded shr) s (v ∷ []) → v ≡ vstruct (vcons (P.val (left s)) (vcons (R.val (right s)) vnil))
+  pub left_is : (s : D) (v : Val) → Is (type_of D (ty_struct name (tcons P.ty (tcons R.ty tnil))) written reaches lives own coded shr) s (v ∷ []) → Is (row P) (left s) (vals P (left s))
+  pub right_is : (s : D) (v : Val) → Is (type_of D (ty_struct name (tcons P.ty (tcons R.ty tnil))) written reaches lives own coded shr) s (v ∷ []) → Is (row R) (right s) (vals R (right s))
+  pub typed : {M : Type 1} {𝓤 : Ura M} (𝓛 : Logic 𝓤) → (s : D) (v : Val) → Is (type_of D (ty_struct name (tcons P.ty (tcons R.ty tnil))) written reaches lives own coded shr) s (v ∷ [])
       → T (has_ty (ty_struct name (tcons P.ty (tcons R.ty tnil))) v) × WT v
 
 abbrev pub ty_of : (P R : Datum) → Answer P R → Ty
 ty_of P R S = ty_struct S.name (tcons P.ty (tcons R.ty tnil))
 
 abbrev pub row_of : (P R : Datum) → Answer P R → RattleType
-row_of P R S = type_of S.D (ty_of P R S) S.written S.reaches S.own S.coded
+row_of P R S = type_of S.D (ty_of P R S) S.written S.reaches S.lives S.own S.coded S.shr
 
 module _ (P R : Datum) where
   -- the contract of `f`
@@ -78,12 +80,15 @@ module _ (P R : Datum) (S : Answer P R) where
   code g = record {
     lifetimes = 1;
     outlives = [];
+    ty_params = [];
+    givens = 0;
     params = 1;
-    locals = local R.ty value_local ∷ local (ty_ref (named 0) mut (pointee P.written)) value_local ∷ local (ty_of P R S) value_local ∷ local P.ty value_local ∷ [];
+    locals = local R.ty value_local ∷ local (ty_ref (named 0) mut (pointee P.written)) value_local ∷ local (ty_of P R S) value_local ∷ local P.ty value_local ∷ local P.ty value_local ∷ [];
     body = seq (assign (place 3 []) (rv_opd (copy (place 1 (deref P.ty ∷ [])))))
         (seq (call g (copy (place 3 []) ∷ []) (place 2 []))
-        (seq (assign (place 1 (deref P.ty ∷ [])) (rv_opd (copy (place 2 (field 0 ∷ [])))))
-        (seq (assign (place 0 []) (rv_opd (copy (place 2 (field 1 ∷ []))))) return)));
+        (seq (assign (place 4 []) (rv_opd (copy (place 2 (field 0 ∷ [])))))
+        (seq (assign (place 1 (deref P.ty ∷ [])) (rv_opd (copy (place 4 []))))
+        (seq (assign (place 0 []) (rv_opd (copy (place 2 (field 1 ∷ []))))) return))));
   }
 
   abbrev stayed : Stays (by_ref P R).signature.params (by_ref P R).kept
@@ -115,8 +120,8 @@ module _ (P R : Datum) (S : Answer P R) where
         abbrev to_callee : Callee.Ghost
         to_callee = ((tt, tt, tt, (h, tt), (vals P h, tt)), tt)
 
-        goes_callee : ent 𝓤 (sep 𝓤 (sem 𝓛 ((row P).own h (vals P h))) (emp 𝓤)) (Callee.pre to_callee)
-        goes_callee = qed 𝓛 (‵ ((row P).own h (vals P h)) ∷ raw (emp 𝓤) ∷ []) ∵ nothing ! $ move ! (1 ∷ 0 ∷ []) $ join ! $ nothing ! $ join ! $ frame ! $ done !
+        goes_callee : ent 𝓤 (sep 𝓤 (sem 𝓛 ((row P).own_val h (vals P h))) (emp 𝓤)) (Callee.pre to_callee)
+        goes_callee = qed 𝓛 (‵ ((row P).own_val h (vals P h)) ∷ raw (emp 𝓤) ∷ []) ∵ nothing ! $ move ! (1 ∷ 0 ∷ []) $ join ! $ nothing ! $ join ! $ frame ! $ done !
 
         exits : (r : P.D) (w : R.D) → Q h r w → Is (row R) w (vals R w) → ent 𝓤 (sep 𝓤 (A.obs γ ((row P).coded.code r)) (sep 𝓤 (A.bor κ (Body (mem (row P)) b o γ)) (A.lft κ q))) (Post (R.val w))
         exits r w e is =
@@ -129,27 +134,28 @@ module _ (P R : Datum) (S : Answer P R) where
           walk : ent 𝓤 (on_entry 𝓛 (by_ref P R).signature (κ, tt) (q, tt) arg at) (WpFn 𝓤 H C Λ (code g) (vptr b o ∷ []) Post)
           walk =
               qed 𝓛 ((‵ (flft κ q) ⊛ ‵ ftrue) ∷ ‵ (owns (MutRef (named 0) κ (row P) ∷ []) arg at) ∷ []) ∵ enter ! C Λ (code g) (vptr b o ∷ []) _ $
-              alloc1 ! (λ l₀. alloc1 ! (λ l₁. alloc1 ! (λ l₂. alloc1 ! (λ l₃. alloc0 ! $ params1 ! $ pass1 ! (init ! 4 refl (tt, tt)) $ pass0 ! $
+              alloc1 ! (λ l₀. alloc1 ! (λ l₁. alloc1 ! (λ l₂. alloc1 ! (λ l₃. alloc1 ! (λ l₄. alloc0 ! $ params1 ! $ pass1 ! (init ! 6 refl (tt, tt)) $ pass0 ! $
               -- the borrow is opened
-              move ! (9 ∷ []) $ fsplit ! $ fsplit3 ! $ drop ! $ move ! (11 ∷ []) $ split ! $ move ! (2 ∷ 3 ∷ 0 ∷ []) $
+              move ! (11 ∷ []) $ fsplit ! $ fsplit3 ! $ drop ! $ move ! (13 ∷ []) $ split ! $ move ! (2 ∷ 3 ∷ 0 ∷ []) $
               opens ! tt (row P) {h = h} b o (λ vs. spelt ! (row P) (Is (row P)) (shows 𝓛 (row P)) (vals P) P.tells full_share h vs b o $
               move ! (1 ∷ []) $ peeks ! (row P) (Is (row P)) (shows 𝓛 (row P)) h (vals P h) (λ was. move ! (1 ∷ 0 ∷ []) $
-              -- [the cell; what h owns; the open borrow; obs; auth; true; true; _3; …; _2; …; _1; …; room for _0; …]
-              assigns ! (of_opd ! (load ! (from ! (hop ! (look ! 11 refl) (stop !))) (look_raw ! 0 refl))) (from ! (stop !)) (init ! 7 refl (P.typed 𝓛 h _ was)) $
+              -- [the cell; what h owns; the open borrow; obs; auth; true; true; _4; …; _3; …; _2; …; _1; …; room for _0; …]
+              assigns ! (of_opd ! (load ! (from ! (hop ! (look ! 13 refl) (stop !))) (look_raw ! 0 refl))) (from ! (stop !)) (init ! 9 refl (P.typed 𝓛 h _ was)) $
               use0 𝓛 (raw (emp 𝓤)) (id⊢ 𝓤 (emp 𝓤)) $ owned ! (row P) (Is (row P)) (P.makes 𝓛) h _ was $ use2 𝓛 (raw (Callee.pre to_callee)) goes_callee $
-              calls_at ! fm Callee known to_callee (and_then ! (load ! (from ! (stop !)) (look ! 8 refl)) (no_more !)) (λ v.
-              use1 𝓛 (later (some (λ (r : S.D). (‵ ftrue ⊛ ‵ ((row_of P R S).own r (v ∷ []))) ⊛ raw (ensured 𝓛 by_value value_clauses tt (h, tt) tt r)))) (id⊢ 𝓤 _) $ await ! tt $ pick ! (λ r.
+              calls_at ! fm Callee known to_callee (and_then ! (load ! (from ! (stop !)) (look ! 10 refl)) (no_more !)) (λ v.
+              use1 𝓛 (later (some (λ (r : S.D). (‵ ftrue ⊛ ‵ ((row_of P R S).own_val r (v ∷ []))) ⊛ raw (ensured 𝓛 by_value value_clauses tt (h, tt) tt r)))) (id⊢ 𝓤 _) $ await ! tt $ pick ! (λ r.
               split ! $ move ! (1 ∷ []) $ use1 𝓛 (raw (fact 𝓤 (Q h (S.left r) (S.right r)))) (got_of h r) $ heard ! (Q h (S.left r) (S.right r)) (λ e. split ! $ drop ! $
               peeks ! (row_of P R S) (Is (row_of P R S)) (shows 𝓛 (row_of P R S)) r (v ∷ []) (λ is.
-              -- [what r owns; the cell; what h owns; the open borrow; obs; auth; true; true; _3; …; _2; …; _1; …; room for _0; …]
-              land ! (from ! (stop !)) (init ! 10 refl (S.typed 𝓛 r _ is)) $ rewrite ! 10 (λ (w : Val). ‵ (fat full_share (ty_of P R S) l₂ 0 w)) (S.spelled r v is) refl $
-              assigns ! (of_opd ! (load ! (from ! (fld ! refl (stop !))) (look_in ! 10 (sub ! 0 refl (whole !))))) (from ! (hop ! (look ! 12 refl) (stop !))) (store_raw ! 1 refl (P.typed 𝓛 (S.left r) _ (S.left_is r v is))) $
-              assigns ! (of_opd ! (load ! (from ! (fld ! refl (stop !))) (look_in ! 10 (sub ! 1 refl (whole !))))) (from ! (stop !)) (init ! 14 refl (R.typed 𝓛 (S.right r) _ (S.right_is r v is))) $
+              -- [what r owns; the cell; what h owns; the open borrow; obs; auth; true; true; _4; …; _3; …; _2; …; _1; …; room for _0; …]
+              land ! (from ! (stop !)) (init ! 12 refl (S.typed 𝓛 r _ is)) $ rewrite ! 12 (λ (w : Val). ‵ (fat full_share (ty_of P R S) l₂ 0 w)) (S.spelled r v is) refl $
+              assigns ! (of_opd ! (load ! (from ! (fld ! refl (stop !))) (look_in ! 12 (sub ! 0 refl (whole !))))) (from ! (stop !)) (init ! 8 refl (P.typed 𝓛 (S.left r) _ (S.left_is r v is))) $
+              assigns ! (of_opd ! (load ! (from ! (stop !)) (look ! 8 refl))) (from ! (hop ! (look ! 14 refl) (stop !))) (store_raw ! 1 refl (P.typed 𝓛 (S.left r) _ (S.left_is r v is))) $
+              assigns ! (of_opd ! (load ! (from ! (fld ! refl (stop !))) (look_in ! 12 (sub ! 1 refl (whole !))))) (from ! (stop !)) (init ! 16 refl (R.typed 𝓛 (S.right r) _ (S.right_is r v is))) $
               drop ! $ owned ! (row P) (Is (row P)) (P.makes 𝓛) (S.left r) _ (S.left_is r v is) $ move ! (1 ∷ 0 ∷ 3 ∷ 4 ∷ 5 ∷ []) $ closes ! tt (row P) (S.left r) (vals P (S.left r)) b o $
-              -- [obs; the borrow; the token; what h owns; true; true; _3; …; _2; …; _1; …; _0; …]
-              returns ! (look ! 12 refl) $ forget ! 6 refl $ forget ! 8 refl $ forget ! 10 refl $ forget ! 12 refl $
-              move ! (12 ∷ 13 ∷ []) $ free1 ! $ move ! (10 ∷ 11 ∷ []) $ free1 ! $ move ! (8 ∷ 9 ∷ []) $ free1 ! $ move ! (6 ∷ 7 ∷ []) $ free1 ! $ free0 ! $
-              keep ! (0 ∷ 1 ∷ 2 ∷ []) $ by ! (exits (S.left r) (S.right r) e (S.right_is r v is))))))))))))
+              -- [obs; the borrow; the token; what h owns; true; true; _4; …; _3; …; _2; …; _1; …; _0; …]
+              returns ! (look ! 14 refl) $ forget ! 6 refl $ forget ! 8 refl $ forget ! 10 refl $ forget ! 12 refl $ forget ! 14 refl $
+              move ! (14 ∷ 15 ∷ []) $ free1 ! $ move ! (12 ∷ 13 ∷ []) $ free1 ! $ move ! (10 ∷ 11 ∷ []) $ free1 ! $ move ! (8 ∷ 9 ∷ []) $ free1 ! $ move ! (6 ∷ 7 ∷ []) $ free1 ! $ free0 ! $
+              keep ! (0 ∷ 1 ∷ 2 ∷ []) $ by ! (exits (S.left r) (S.right r) e (S.right_is r v is)))))))))))))
 
       module _ (𝓣 : Tables 𝓤 H) (g : Name) (known : Triple 𝓤 (𝓣.C g) Callee) where
         walks : Walks 𝓛 (by_ref P R) stayed (WpFn 𝓤 H 𝓣.C 𝓣.Λ (code g)) (ref_clauses P R 𝓤 Q)

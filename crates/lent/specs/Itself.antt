@@ -7,10 +7,10 @@
 use Rattle.std.specs.Prelude.{◌≡◌, refl, Bool, true, false, ℕ, ◌<◌, [], ◌∷◌, List}
 use Rattle.std.proofs.Common.{ap, subst}
 use seplogic.Ra.Ura.{Ura}
-use seplogic.Ra.TreeShare.{full_share}
+use base.Fraction.{full_share}
 use lib.WfN.{lt-wf_rel}
 use lib.NonEmpty.{one}
-use mir.Syntax.{Name, Ty, Body, Fn, named, erased, mut, ty_unit, ty_bool, ty_ref, deref, place, copy, opd_unit, local, value_local, seq, assign, cond, skip, call, return, rv_opd, addr_of}
+use mir.Syntax.{Callee as Name, Ty, Body, Fn, named, erased, mut, ty_unit, ty_bool, ty_ref, deref, place, copy, opd_unit, local, value_local, seq, assign, cond, skip, call, return, rv_opd, addr_of}
 use mir.Val.{Val, vunit, vbool, vptr}
 use base.Logic.{SProp, ent, sep, emp, id⊢}
 use base.Fml.{Fml, GName, Lft, Share, ftrue, flft, fat, froom, fdies}
@@ -20,7 +20,7 @@ use prog.Wp.{Env, Calls, Loops, WpFn, Tables, Closed}
 use types.Logic.{Logic, sem}
 use contract.Monad.{fact, Fun}
 use contract.Running.{Running, tables, tables_of}
-use types.Kit.{Item, ‵, raw, some, later, ◌⊛◌, ◌$◌, ◌∵◌, !, Sq, qed, by, at_ret, runs, move, keep, use0, use1, use2, use3, split, join, pick, rewrite, fsplit, fjoin, feq_i, suffices, frame, await, done}
+use types.Kit.{Item, ‵, raw, some, later, ◌⊛◌, ◌$◌, ◌∵◌, !, Sq, qed, by, at_ret, runs, move, keep, drop, use0, use1, use2, use3, split, join, pick, rewrite, fsplit, fjoin, feq_i, suffices, frame, await, done}
 use types.Run.{look, init, forget, stop, hop, from, load, addr, unit_lit, of_opd, and_then, no_more, assigns, first, branches, skips, land, land_last, exec, returns, enter, alloc1, alloc0, params1, pass1, pass0, free1, free0}
 use types.Tokens.{lft_new, lft_end}
 use sound.WpLaws.{FmC, fm_of, WpFn-mono}
@@ -72,6 +72,8 @@ module _ (P : Datum) where
   code g f = record {
     lifetimes = 1;
     outlives = [];
+    ty_params = [];
+    givens = 0;
     params = 1;
     locals = local ty_unit value_local ∷ local lent_ty value_local ∷ local ty_bool value_local ∷ local again_ty value_local ∷ local ty_unit value_local ∷ local again_ty value_local ∷ [];
     body = seq (assign (place 3 []) (addr_of (place 1 (deref P.ty ∷ [])))) (seq (call g (copy (place 3 []) ∷ []) (place 2 [])) (branch_code f));
@@ -153,7 +155,7 @@ module _ (P : Datum) where
               calls_from_last ! fm (raw (Self.pre (to_self α δ x))) (vptr b o ∷ []) (Self.post (to_self α δ x)) (self (to_self α δ x) (turning.falls h x need e)) (and_then ! (load ! (from ! (stop !)) (look ! 2 refl)) (no_more !)) (λ v.
               use1 𝓛 (later (some (λ (u : Unit {0}). ((‵ (flft (α ∷ []) full_share) ⊛ ‵ ftrue) ⊛ ‵ (unit.own_val u (v ∷ []))) ⊛ raw (ensured 𝓛 (by_ref P) (ref_clauses 𝓤 Need Ends) (α ∷ [], tt) (ref δ x, tt) tt u)))) (id⊢ 𝓤 _) $ await ! tt $ pick ! (λ u.
               split ! $ move ! (1 ∷ []) $ use1 𝓛 (some (λ (ws : P.D × Unit {0}). ‵ (lasts (by_ref P) (α ∷ [], tt) (ref δ x, tt) ws) ⊛ raw (fact 𝓤 (Ends x ws.0)))) (id⊢ 𝓤 _) $ pick ! (λ ws.
-              split ! $ move ! (1 ∷ []) $ heard ! (Ends x ws.0) (λ e'. fsplit ! $ move ! (2 ∷ []) $ split ! $ move ! (1 ∷ []) $
+              split ! $ move ! (1 ∷ []) $ heard ! (Ends x ws.0) (λ e'. fsplit ! $ fsplit ! $ move ! (1 ∷ []) $ drop ! $ move ! (2 ∷ []) $ split ! $ move ! (1 ∷ []) $
               peeks ! unit (Is unit) (shows 𝓛 unit) u (v ∷ []) (λ is. land_last ! (from ! (stop !)) (init ! 7 refl ((Nothing-Lawful 𝓛).typed u _ is).0) $ exec ! C Λ E rest-code (at_ret E Post) $
               -- the lifetime is ended, and the reference comes back at its last value
               move ! (1 ∷ []) $ split ! $ lft_end ! tt $ move ! (0 ∷ 5 ∷ 3 ∷ []) $
@@ -172,9 +174,9 @@ module _ (P : Datum) where
             use2 𝓛 (later (some (λ (δ : GName). ‵ (own_at (α ∷ []) δ h) ⊛ ‵ (LentAgain (row P) κ (α ∷ []) q γ b o δ h)))) (lends_again 𝓛 (row P) (named 0) κ (α ∷ []) q γ b o (named 0) h) $ await ! tt $ pick ! (λ δ. split ! $
             move ! (2 ∷ 0 ∷ []) $ use2 𝓛 (raw (Callee.pre (to_callee α δ))) (goes_callee α δ) $
             calls_at ! fm Callee known (to_callee α δ) (and_then ! (load ! (from ! (stop !)) (look ! 8 refl)) (no_more !)) (λ v.
-            use1 𝓛 (later (some (λ (a : Bool). ((‵ (flft (α ∷ []) full_share) ⊛ ‵ ftrue) ⊛ ‵ ((row flag).own a (v ∷ []))) ⊛ raw (ensured 𝓛 (asks.by_ref P flag) (asks.ref_clauses P flag 𝓤 Turn) (α ∷ [], tt) (ref δ h, tt) tt a)))) (id⊢ 𝓤 _) $ await ! tt $ pick ! (λ a.
+            use1 𝓛 (later (some (λ (a : Bool). ((‵ (flft (α ∷ []) full_share) ⊛ ‵ ftrue) ⊛ ‵ ((row flag).own_val a (v ∷ []))) ⊛ raw (ensured 𝓛 (asks.by_ref P flag) (asks.ref_clauses P flag 𝓤 Turn) (α ∷ [], tt) (ref δ h, tt) tt a)))) (id⊢ 𝓤 _) $ await ! tt $ pick ! (λ a.
             split ! $ move ! (1 ∷ []) $ use1 𝓛 (some (λ (ws : P.D × Unit {0}). ‵ (lasts (asks.by_ref P flag) (α ∷ [], tt) (ref δ h, tt) ws) ⊛ raw (fact 𝓤 (Turn h ws.0 a)))) (id⊢ 𝓤 _) $ pick ! (λ ws.
-            split ! $ move ! (1 ∷ []) $ heard ! (Turn h ws.0 a) (λ e. fsplit ! $ move ! (2 ∷ []) $ split ! $ move ! (1 ∷ []) $
+            split ! $ move ! (1 ∷ []) $ heard ! (Turn h ws.0 a) (λ e. fsplit ! $ fsplit ! $ move ! (1 ∷ []) $ drop ! $ move ! (2 ∷ []) $ split ! $ move ! (1 ∷ []) $
             peeks ! (row flag) (Is (row flag)) (shows 𝓛 (row flag)) a (v ∷ []) (λ is.
             -- [the answer; the token; the last value; true; what is kept of the reference; true; true; _5; …; _4; …; _3; …; _2; …; _1; …; room for _0; …]
             land ! (from ! (stop !)) (init ! 13 refl (flag.typed 𝓛 a _ is)) $ rewrite ! 13 (λ (w : Val). ‵ (fat full_share ty_bool l₂ 0 w)) (ap only (flag.tells a (v ∷ []) is)) refl $

@@ -5,8 +5,8 @@
 --     holds        a step of a walk: what a clause ensures is shown
 use Rattle.std.specs.Prelude.{◌≡◌, refl, ℕ, [], ◌∷◌, List}
 use seplogic.Ra.Ura.{Ura}
-use seplogic.Ra.TreeShare.{full_share}
-use mir.Syntax.{Name, Fn, named, mut, ty_unit, ty_ref, deref, place, copy, opd_unit, local, value_local, seq, assign, call, return, rv_opd}
+use base.Fraction.{full_share}
+use mir.Syntax.{Callee as Name, Fn, named, mut, ty_unit, ty_ref, deref, place, copy, opd_unit, local, value_local, seq, assign, call, return, rv_opd}
 use mir.Val.{Val, vunit, vptr}
 use base.Logic.{SProp, ent, sep, emp, via, comm∗, mono_l, emp∗, fst∗, snd∗, ex_e, id⊢}
 use base.Fml.{GName, Lft, Share, ftrue, flft, fobs, fbor}
@@ -55,6 +55,8 @@ module _ (P : Datum) where
   code g = record {
     lifetimes = 1;
     outlives = [];
+    ty_params = [];
+    givens = 0;
     params = 1;
     locals = local ty_unit value_local ∷ local (ty_ref (named 0) mut (pointee P.written)) value_local ∷ local P.ty value_local ∷ local P.ty value_local ∷ [];
     body = seq (assign (place 3 []) (rv_opd (copy (place 1 (deref P.ty ∷ [])))))
@@ -95,8 +97,8 @@ module _ (P : Datum) where
         abbrev to_callee : Callee.Ghost
         to_callee = ((tt, tt, tt, (h, tt), (vals P h, tt)), tt)
 
-        goes_callee : ent 𝓤 (sep 𝓤 (sem 𝓛 ((row P).own h (vals P h))) (emp 𝓤)) (Callee.pre to_callee)
-        goes_callee = qed 𝓛 (‵ ((row P).own h (vals P h)) ∷ raw (emp 𝓤) ∷ []) ∵ nothing ! $ move ! (1 ∷ 0 ∷ []) $ join ! $ nothing ! $ join ! $ frame ! $ done !
+        goes_callee : ent 𝓤 (sep 𝓤 (sem 𝓛 ((row P).own_val h (vals P h))) (emp 𝓤)) (Callee.pre to_callee)
+        goes_callee = qed 𝓛 (‵ ((row P).own_val h (vals P h)) ∷ raw (emp 𝓤) ∷ []) ∵ nothing ! $ move ! (1 ∷ 0 ∷ []) $ join ! $ nothing ! $ join ! $ frame ! $ done !
 
         exits : (r : P.D) → Q h r → ent 𝓤 (sep 𝓤 (A.obs γ ((row P).coded.code r)) (sep 𝓤 (A.bor κ (Body (mem (row P)) b o γ)) (A.lft κ q))) (Post vunit)
         exits r e =
@@ -118,7 +120,7 @@ module _ (P : Datum) where
               assigns ! (of_opd ! (load ! (from ! (hop ! (look ! 11 refl) (stop !))) (look_raw ! 0 refl))) (from ! (stop !)) (init ! 7 refl (P.typed 𝓛 h _ was)) $
               use0 𝓛 (raw (emp 𝓤)) (id⊢ 𝓤 (emp 𝓤)) $ owned ! (row P) (Is (row P)) (P.makes 𝓛) h _ was $ use2 𝓛 (raw (Callee.pre to_callee)) goes_callee $
               calls_at ! fm Callee known to_callee (and_then ! (load ! (from ! (stop !)) (look ! 8 refl)) (no_more !)) (λ v.
-              use1 𝓛 (later (some (λ (r : P.D). (‵ ftrue ⊛ ‵ ((row P).own r (v ∷ []))) ⊛ raw (ensured 𝓛 by_value value_clauses tt (h, tt) tt r)))) (id⊢ 𝓤 _) $ await ! tt $ pick ! (λ r.
+              use1 𝓛 (later (some (λ (r : P.D). (‵ ftrue ⊛ ‵ ((row P).own_val r (v ∷ []))) ⊛ raw (ensured 𝓛 by_value value_clauses tt (h, tt) tt r)))) (id⊢ 𝓤 _) $ await ! tt $ pick ! (λ r.
               split ! $ move ! (1 ∷ []) $ use1 𝓛 (raw (fact 𝓤 (Q h r))) (got_of h r) $ heard ! (Q h r) (λ e. split ! $ drop ! $
               peeks ! (row P) (Is (row P)) (shows 𝓛 (row P)) r (v ∷ []) (λ is.
               -- [what r owns; the cell; what h owns; the open borrow; obs; auth; true; true; _3; …; _2; …; _1; …; room for _0; …]

@@ -4,8 +4,8 @@
 --     code         the MIR of `f`        lent     `f` meets its contract, where `g` meets its own
 use Rattle.std.specs.Prelude.{◌≡◌, refl, ℕ, [], ◌∷◌, List}
 use seplogic.Ra.Ura.{Ura}
-use seplogic.Ra.TreeShare.{full_share}
-use mir.Syntax.{Name, Fn, named, mut, ty_unit, ty_ref, deref, place, copy, opd_unit, local, value_local, seq, assign, call, return, rv_opd}
+use base.Fraction.{full_share}
+use mir.Syntax.{Callee as Name, Fn, named, mut, ty_unit, ty_ref, deref, place, copy, opd_unit, local, value_local, seq, assign, call, return, rv_opd}
 use mir.Val.{Val, vunit, vptr}
 use base.Logic.{SProp, ent, sep, emp, via, fst∗, snd∗, ex_e, id⊢}
 use base.Fml.{GName, Lft, Share, ftrue, flft, fobs, fbor}
@@ -52,6 +52,8 @@ module _ (P X : Datum) where
   code g = record {
     lifetimes = 1;
     outlives = [];
+    ty_params = [];
+    givens = 0;
     params = 2;
     locals = local ty_unit value_local ∷ local (ty_ref (named 0) mut (pointee P.written)) value_local ∷ local X.ty value_local ∷ local P.ty value_local ∷ local P.ty value_local ∷ [];
     body = seq (assign (place 4 []) (rv_opd (copy (place 1 (deref P.ty ∷ [])))))
@@ -92,8 +94,8 @@ module _ (P X : Datum) where
         abbrev to_callee : Callee.Ghost
         to_callee = ((tt, tt, tt, (h, (x, tt)), (vals P h, (vals X x, tt))), tt)
 
-        goes_callee : ent 𝓤 (sep 𝓤 (sem 𝓛 ((row P).own h (vals P h))) (emp 𝓤)) (Callee.pre to_callee)
-        goes_callee = qed 𝓛 (‵ ((row P).own h (vals P h)) ∷ raw (emp 𝓤) ∷ []) ∵ nothing ! $ owned ! (row X) (Is (row X)) (X.makes 𝓛) x _ x-is $ fjoin ! $ move ! (1 ∷ 0 ∷ []) $ fjoin ! $ nothing ! $ join ! $ frame ! $ done !
+        goes_callee : ent 𝓤 (sep 𝓤 (sem 𝓛 ((row P).own_val h (vals P h))) (emp 𝓤)) (Callee.pre to_callee)
+        goes_callee = qed 𝓛 (‵ ((row P).own_val h (vals P h)) ∷ raw (emp 𝓤) ∷ []) ∵ nothing ! $ owned ! (row X) (Is (row X)) (X.makes 𝓛) x _ x-is $ fjoin ! $ move ! (1 ∷ 0 ∷ []) $ fjoin ! $ nothing ! $ join ! $ frame ! $ done !
 
         exits : (r : P.D) → Q h x r → ent 𝓤 (sep 𝓤 (A.obs γ ((row P).coded.code r)) (sep 𝓤 (A.bor κ (Body (mem (row P)) b o γ)) (A.lft κ q))) (Post vunit)
         exits r e =
@@ -115,7 +117,7 @@ module _ (P X : Datum) where
               assigns ! (of_opd ! (load ! (from ! (hop ! (look ! 13 refl) (stop !))) (look_raw ! 0 refl))) (from ! (stop !)) (init ! 7 refl (P.typed 𝓛 h _ was)) $
               use0 𝓛 (raw (emp 𝓤)) (id⊢ 𝓤 (emp 𝓤)) $ owned ! (row P) (Is (row P)) (P.makes 𝓛) h _ was $ use2 𝓛 (raw (Callee.pre to_callee)) goes_callee $
               calls_at ! fm Callee known to_callee (and_then ! (load ! (from ! (stop !)) (look ! 8 refl)) (and_then ! (load ! (from ! (stop !)) (look ! 12 refl)) (no_more !))) (λ v.
-              use1 𝓛 (later (some (λ (r : P.D). (‵ ftrue ⊛ ‵ ((row P).own r (v ∷ []))) ⊛ raw (ensured 𝓛 by_value value_clauses tt (h, (x, tt)) tt r)))) (id⊢ 𝓤 _) $ await ! tt $ pick ! (λ r.
+              use1 𝓛 (later (some (λ (r : P.D). (‵ ftrue ⊛ ‵ ((row P).own_val r (v ∷ []))) ⊛ raw (ensured 𝓛 by_value value_clauses tt (h, (x, tt)) tt r)))) (id⊢ 𝓤 _) $ await ! tt $ pick ! (λ r.
               split ! $ move ! (1 ∷ []) $ use1 𝓛 (raw (fact 𝓤 (Q h x r))) (got_of h x r) $ heard ! (Q h x r) (λ e. split ! $ drop ! $
               peeks ! (row P) (Is (row P)) (shows 𝓛 (row P)) r (v ∷ []) (λ is.
               -- [what r owns; the cell; what h owns; the open borrow; obs; auth; true; true; _4; …; _3; …; _2; …; _1; …; room for _0; …]

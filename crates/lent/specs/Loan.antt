@@ -4,8 +4,8 @@
 -- The local is lent for a lifetime that is made for the call, and is back, at its last value, once that lifetime is over.
 use Rattle.std.specs.Prelude.{◌≡◌, refl, ℕ, [], ◌∷◌, List}
 use seplogic.Ra.Ura.{Ura}
-use seplogic.Ra.TreeShare.{full_share}
-use mir.Syntax.{Name, Fn, named, erased, mut, ty_unit, ty_ref, place, copy, local, value_local, memory_slot, seq, assign, call, return, rv_opd, addr_of}
+use base.Fraction.{full_share}
+use mir.Syntax.{Callee as Name, Fn, named, erased, mut, ty_unit, ty_ref, place, copy, local, value_local, memory_slot, seq, assign, call, return, rv_opd, addr_of}
 use mir.Val.{Val, vptr}
 use base.Logic.{SProp, ent, sep, guard, id⊢}
 use base.Fml.{GName, ftrue, fsep, flft, fat, flent}
@@ -50,7 +50,7 @@ module _ (P : Datum) {M : Type 1} {𝓤 : Ura M} (𝓛 : Logic 𝓤) where
   unfolding part_of
   lie h is b o =
       qed 𝓛 (‵ (fat full_share P.ty b o (P.val h)) ∷ []) ∵ use1 𝓛 (‵ (cell_at full_share (row P).mir (vals P h) b o)) (𝓛.laws.at_raw full_share P.ty b o (P.val h)) $
-      owned ! (row P) (Is (row P)) (P.makes 𝓛) h _ is $ move ! (1 ∷ 0 ∷ []) $ fjoin ! $ fpack ! (List Val) (λ us. fsep (cell_at full_share (row P).mir us b o) ((row P).own h us)) (vals P h) $ done !
+      owned ! (row P) (Is (row P)) (P.makes 𝓛) h _ is $ move ! (1 ∷ 0 ∷ []) $ fjoin ! $ fpack ! (List Val) (λ us. fsep (cell_at full_share (row P).mir us b o) ((row P).own_val h us)) (vals P h) $ done !
 
   unlie : (h : P.D) (b o : ℕ) → ent 𝓤 (sem 𝓛 ((mem (row P)).own_at h b o)) (guard 𝓤 (Is (row P) h (vals P h)) (H.at full_share P.ty b o (P.val h)))
   unfolding part_of
@@ -66,6 +66,8 @@ module _ (P : Datum) where
   code g = record {
     lifetimes = 0;
     outlives = [];
+    ty_params = [];
+    givens = 0;
     params = 1;
     locals = local P.ty value_local ∷ local P.ty value_local ∷ local P.ty memory_slot ∷ local ty_unit value_local ∷ local (ty_ref erased mut (pointee P.written)) value_local ∷ [];
     body = seq (assign (place 2 []) (rv_opd (copy (place 1 []))))
@@ -119,7 +121,7 @@ module _ (P : Datum) where
             calls_at ! fm Callee known (to_callee α l₂ γ) (and_then ! (load ! (from ! (stop !)) (look ! 2 refl)) (no_more !)) (λ v.
             use1 𝓛 (later (some (λ (u : Unit {0}). ((‵ (flft (α ∷ []) full_share) ⊛ ‵ ftrue) ⊛ ‵ (unit.own_val u (v ∷ []))) ⊛ raw (ensured 𝓛 (by_ref P) (ref_clauses P 𝓤 Need Ends) (α ∷ [], tt) (ref l₂ γ, tt) tt u)))) (id⊢ 𝓤 _) $ await ! tt $ pick ! (λ u.
             split ! $ move ! (1 ∷ []) $ use1 𝓛 (some (λ (ws : P.D × Unit {0}). ‵ (lasts (by_ref P) (α ∷ [], tt) (ref l₂ γ, tt) ws) ⊛ raw (fact 𝓤 (Ends h ws.0)))) (id⊢ 𝓤 _) $ pick ! (λ ws.
-            split ! $ move ! (1 ∷ []) $ heard ! (Ends h ws.0) (λ e. fsplit ! $ move ! (2 ∷ []) $ split ! $ move ! (1 ∷ []) $
+            split ! $ move ! (1 ∷ []) $ heard ! (Ends h ws.0) (λ e. fsplit ! $ fsplit ! $ move ! (1 ∷ []) $ drop ! $ move ! (2 ∷ []) $ split ! $ move ! (1 ∷ []) $
             peeks ! unit (Is unit) (shows 𝓛 unit) u (v ∷ []) (λ is. land ! (from ! (stop !)) (init ! 7 refl ((Nothing-Lawful 𝓛).typed u _ is).0) $
             -- the lifetime is ended, and the local is back at its last value
             move ! (1 ∷ []) $ split ! $ lft_end ! tt $ move ! (0 ∷ 5 ∷ 3 ∷ []) $ use3 𝓛 (later (‵ ((mem (row P)).own_at ws.0 l₂ 0))) (ref_back 𝓛 (row P) (α ∷ []) γ ws.0 l₂ 0) $ await ! tt $

@@ -6,8 +6,8 @@
 use Rattle.std.specs.Prelude.{◌≡◌, refl, ℕ, ◌^◌, [], ◌∷◌, List, T, ltb, length}
 use Rattle.std.proofs.Common.{sym, subst}
 use seplogic.Ra.Ura.{Ura}
-use seplogic.Ra.TreeShare.{full_share}
-use mir.Syntax.{Name, Fn, Ty, named, erased, mut, w64, ty_unit, ty_ref, place, copy, int, local, value_local, memory_slot, seq, assign, call, return, rv_opd, addr_of, aggregate}
+use base.Fraction.{full_share}
+use mir.Syntax.{Callee as Name, Fn, Ty, named, erased, mut, w64, ty_unit, ty_ref, place, copy, int, local, value_local, memory_slot, seq, assign, call, return, rv_opd, addr_of, aggregate}
 use mir.Val.{Val}
 use base.Logic.{SProp, ent, sep, guard, emp, via, fst∗, id⊢}
 use base.Fml.{GName, ftrue, fsep, flft, fat, flent}
@@ -56,7 +56,7 @@ module _ (P : Datum) {M : Type 1} {𝓤 : Ura M} (𝓛 : Logic 𝓤) where
   unfolding part_of
   lie h is b o =
       qed 𝓛 (‵ (fat full_share P.ty b o (P.val h)) ∷ []) ∵ use1 𝓛 (‵ (cell_at full_share (row P).mir (vals P h) b o)) (𝓛.laws.at_raw full_share P.ty b o (P.val h)) $
-      owned ! (row P) (Is (row P)) (P.makes 𝓛) h _ is $ move ! (1 ∷ 0 ∷ []) $ fjoin ! $ fpack ! (List Val) (λ us. fsep (cell_at full_share (row P).mir us b o) ((row P).own h us)) (vals P h) $ done !
+      owned ! (row P) (Is (row P)) (P.makes 𝓛) h _ is $ move ! (1 ∷ 0 ∷ []) $ fjoin ! $ fpack ! (List Val) (λ us. fsep (cell_at full_share (row P).mir us b o) ((row P).own_val h us)) (vals P h) $ done !
 
   unlie : (h : P.D) (b o : ℕ) → ent 𝓤 (sem 𝓛 ((mem (row P)).own_at h b o)) (guard 𝓤 (Is (row P) h (vals P h)) (H.at full_share P.ty b o (P.val h)))
   unfolding part_of
@@ -84,6 +84,8 @@ module _ (P X : Datum) where
     code g = record {
       lifetimes = 0;
       outlives = [];
+      ty_params = [];
+      givens = 0;
       params = 2;
       locals = local all.ty value_local ∷ local all.ty value_local ∷ local X.ty value_local ∷ local all.ty memory_slot ∷ local ty_unit value_local ∷ local (ty_ref erased mut (pointee all.written)) value_local ∷ local slice value_local ∷ [];
       body = seq (assign (place 3 []) (rv_opd (copy (place 1 []))))
@@ -160,7 +162,7 @@ module _ (P X : Datum) where
                 calls_at ! fm Callee known (to_callee α l₃ γ) (and_then ! (load ! (from ! (stop !)) (look ! 2 refl)) (and_then ! (load ! (from ! (stop !)) (look ! 9 refl)) (no_more !))) (λ v.
                 use1 𝓛 (later (some (λ (u : Unit {0}). ((‵ (flft (α ∷ []) full_share) ⊛ ‵ ftrue) ⊛ ‵ (unit.own_val u (v ∷ []))) ⊛ raw (ensured 𝓛 by-slice slice-clauses (α ∷ [], tt) (ref l₃ γ, (x, tt)) tt u)))) (id⊢ 𝓤 _) $ await ! tt $ pick ! (λ u.
                 split ! $ move ! (1 ∷ []) $ use1 𝓛 (some (λ (ws : List P.D × (Unit {0} × Unit {0})). ‵ (lasts by-slice (α ∷ [], tt) (ref l₃ γ, (x, tt)) ws) ⊛ raw (fact 𝓤 (ws.0 ≡ change x xs)))) (id⊢ 𝓤 _) $ pick ! (λ ws.
-                split ! $ move ! (1 ∷ []) $ heard ! (ws.0 ≡ change x xs) (λ e. fsplit ! $ move ! (2 ∷ []) $ split ! $ move ! (1 ∷ []) $
+                split ! $ move ! (1 ∷ []) $ heard ! (ws.0 ≡ change x xs) (λ e. fsplit ! $ fsplit ! $ move ! (1 ∷ []) $ drop ! $ move ! (2 ∷ []) $ split ! $ move ! (1 ∷ []) $
                 peeks ! unit (Is unit) (shows 𝓛 unit) u (v ∷ []) (λ is. land ! (from ! (stop !)) (init ! 9 refl ((Nothing-Lawful 𝓛).typed u _ is).0) $
                 -- the lifetime is ended, and the local is back at its last elements
                 move ! (1 ∷ []) $ split ! $ lft_end ! tt $ move ! (3 ∷ []) $ fsplit ! $ move ! (2 ∷ 6 ∷ 0 ∷ []) $

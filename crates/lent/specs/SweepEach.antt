@@ -17,8 +17,8 @@ use mathlib.Core.List.{[], ◌∷◌, List}
 use Rattle.std.proofs.Math.ListN.{set}
 use lib.WfN.{lt-wf_rel}
 use seplogic.Ra.Ura.{Ura}
-use seplogic.Ra.TreeShare.{full_share}
-use mir.Syntax.{Name, Fn, Body as Code, Ty, named, erased, mut, w64, ty_int, ty_bool, ty_ptr, ty_ref, ty_unit, deref, field, place, unsigned, copy, int, opd_unit, local, value_local, skip, seq, assign, block, loop, cond, exit, return, call, rv_opd, addr_of, op2, add, mul, lt, offset}
+use base.Fraction.{full_share}
+use mir.Syntax.{Callee as Name, Fn, Body as Code, Ty, named, erased, mut, w64, ty_int, ty_bool, ty_ptr, ty_ref, ty_unit, deref, field, place, unsigned, copy, int, opd_unit, local, value_local, skip, seq, assign, block, loop, cond, exit, return, call, rv_opd, addr_of, op2, add, mul, lt, offset}
 use mir.Val.{Val, vunit, vbool, vint, vptr}
 use base.Logic.{SProp, ent, sep, emp, via, fst∗, id⊢}
 use base.Fml.{GName, Lft, Share, ftrue, flft, fobs, fauth, fbor, fobor, flent, fat, froom, fdies}
@@ -102,6 +102,8 @@ module _ (P X : Datum) where
     code = record {
       lifetimes = 1;
       outlives = [];
+      ty_params = [];
+      givens = 0;
       params = 2;
       locals = local ty_unit value_local ∷ local slice value_local ∷ local X.ty value_local ∷ local (ty_int w64) value_local ∷ local (ty_int w64) value_local ∷ local ty_bool value_local ∷ local ty_unit value_local ∷ local ty_ptr value_local ∷ local ref_ty value_local ∷ [];
       body = seq (assign (place 3 []) (rv_opd (int w64 0))) (seq (block (loop turn_code)) rest-code);
@@ -209,7 +211,7 @@ module _ (P X : Datum) where
               (and_then ! (load ! (from ! (stop !)) (look ! 8 refl)) (and_then ! (load ! (from ! (stop !)) (look ! 3 refl)) (and_then ! (load ! (from ! (stop !)) (look ! 10 refl)) (no_more !)))) (λ v.
               use1 𝓛 (later (some (λ (u : Unit {0}). ((‵ (flft (α ∷ []) full_share) ⊛ ‵ ftrue) ⊛ ‵ (unit.own_val u (v ∷ []))) ⊛ raw (ensured 𝓛 by_ref ref_clauses (α ∷ [], tt) (ref h p δ, (i, (x, tt))) tt u)))) (id⊢ 𝓤 _) $ await ! tt $ pick ! (λ u.
               split ! $ move ! (1 ∷ []) $ use1 𝓛 (some (λ (ws : P.D × (Unit {0} × (Unit {0} × Unit {0}))). ‵ (lasts by_ref (α ∷ [], tt) (ref h p δ, (i, (x, tt))) ws) ⊛ raw (fact 𝓤 (ws.0 ≡ step i h)))) (id⊢ 𝓤 _) $ pick ! (λ ws.
-              split ! $ move ! (1 ∷ []) $ heard ! (ws.0 ≡ step i h) (λ e. fsplit ! $ move ! (2 ∷ []) $ split ! $ move ! (1 ∷ []) $
+              split ! $ move ! (1 ∷ []) $ heard ! (ws.0 ≡ step i h) (λ e. fsplit ! $ fsplit ! $ move ! (1 ∷ []) $ drop ! $ move ! (2 ∷ []) $ split ! $ move ! (1 ∷ []) $
               peeks ! unit (Is unit) (shows 𝓛 unit) u (v ∷ []) (λ is. land ! (from ! (stop !)) (init ! 9 refl ((Nothing-Lawful 𝓛).typed u _ is).0) $
               -- the lifetime is ended, and the element goes back into the row at its last value
               move ! (1 ∷ []) $ split ! $ lft_end ! tt $ move ! (0 ∷ 5 ∷ 3 ∷ []) $ use3 𝓛 (later (‵ ((mem (row P)).own_at ws.0 b p))) (ref_back 𝓛 (row P) (α ∷ []) δ ws.0 b p) $ await ! tt $
