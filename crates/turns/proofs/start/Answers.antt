@@ -1,0 +1,9 @@
+-- `start` meets its contract.
+use Rattle.rules.specs.declared.world.Asked.TheVariants.{Nobody}
+use Rattle.rules.specs.Turn.{start}
+use borrow.Author.Rules.{rules}
+use Rattle.turns.proofs.start.Goals as goal
+
+pub returns : goal.returns
+unfolding start
+returns c = λ i. record { threads = c.start_threads.ensures i; objects = c.start_objects.ensures i; turn = 0; asked = Nobody }
