@@ -1,0 +1,12 @@
+-- `walk::extended` meets its contract.
+use Rattle.walk.specs.Decided.{full_stays, stored_made}
+use borrow.Author.Rules.{rules}
+use Rattle.walk.proofs.extended.Goals as goal
+
+pub returns-then-at-ge-LIST : goal.returns-then-at-ge-LIST
+returns-then-at-ge-LIST c = full_stays c.args.c c.args.d c.if-at-ge-LIST.true
+
+pub returns : goal.returns
+returns c =
+    let a = c.args in
+    stored_made a.c a.d c.decide-ran.result c.is_over.result c.decide-ran.ensures c.is_over.ensures
