@@ -1,79 +1,67 @@
 -- `walker::advance` meets its contract.
-use mathlib.Core.Path.{◌≡◌, sym}
-use mathlib.Core.Logic.{inl, inr}
-use Prim.Native.Nat.{ℕ, ◌-◌, ◌<◌, min}
-use native.Mathlib.Omega.{arith}
-use lib.ListN.{length, get_or}
-use borrow.Author.Rules.{rules}
+use Rattle.std.proofs.Common.{◌≡◌, ℕ, ◌-◌, ◌<◌, min, length, get_or, sym, arith, rules}
 use Rattle.rules.specs.Limits.{max_list}
 use Rattle.rules.specs.Walk.{decisions}
 use Rattle.walker.specs.declared.Walker.{Walker}
 use Rattle.walker.specs.Walking.{last_below}
 use Rattle.walker.specs.Steps.{found_in, found_decision, advanced-over, advanced_on}
 use Rattle.walker.proofs.advance.Goals as goal
+use Rattle.walker.proofs.advance.Goals.{Joined-path-lt-LIST, Else-i-eq0, then-path-lt-LIST, else-path-lt-LIST}
 
 -- the run's length, within its buffer
-module _ (c : tie.Joined1) where
-  abbrev w : Walker
-  w = c.before.before.before.before.before.before.before.args.w
-
-  long : length w.path.list ≡ max_list
+module _ (c : Joined-path-lt-LIST) where
+  long : length c.args.w.path.list ≡ max_list
   long = search rules
 
-  long_later : length w.path.later ≡ max_list
+  long_later : length c.args.w.path.later ≡ max_list
   long_later = search rules
 
-  abbrev n : ℕ
-  n = c.if1.n
-
-  is-n : n ≡ min w.path.at max_list
-  is-n =
-      elim c.if1.branch [
-        | inl x ↦ let e : n ≡ w.path.at = x.1 in let h = x.0.taken in omega (arith, e, h)
-        | inr x ↦ let e : n ≡ max_list = x.1 in let h = x.0.left in omega (arith, e, h)
+  is_n : c.if-path-lt-LIST.n ≡ min c.args.w.path.at max_list
+  is_n =
+      elim c.if-path-lt-LIST.branch [
+        then-path-lt-LIST x ↦ let e = x.n-is in let h = x.if-path-lt-LIST.true in omega (arith, e, h)
+        | else-path-lt-LIST x ↦ let e = x.n-is in let h = x.if-path-lt-LIST.false in omega (arith, e, h)
       ]
 
 -- the place of the change
-module _ (c : tie.Else2) where
-  abbrev j : tie.Joined1
-  j = c.before.before.before
+module _ (c : Else-i-eq0) (is_n : c.if-path-lt-LIST.n ≡ min c.args.w.path.at max_list) where
+  some : 0 < c.last_below-i.result
+  some = let h = c.if-i-eq0.false in omega (arith, h)
 
-  abbrev i : ℕ
-  i = c.before.last-below.result
+  inside : c.last_below-i.result - 1 < max_list
+  inside = omega (arith, found_in c.args.w.path.later c.if-path-lt-LIST.n c.last_below-i.result c.last_below-i.ensures some, is_n)
 
-  is-i : i ≡ last_below (w j).path.later (n j)
-  is-i = c.before.last-below.ensures
-
-  some : 0 < i
-  some = let h = c.if2.false in omega (arith, h)
-
-  inside : i - 1 < max_list
-  inside = omega (arith, found_in (w j).path.later (n j) i is-i some, is-n j)
-
-  below : get_or (w j).path.later (i - 1) 0 < decisions
-  below = found_decision (w j).path.later (n j) i is-i some
+  below : get_or c.args.w.path.later (c.last_below-i.result - 1) 0 < decisions
+  below = found_decision c.args.w.path.later c.if-path-lt-LIST.n c.last_below-i.result c.last_below-i.ensures some
 
 pub last_below-i-requires : goal.last_below-i-requires
-last_below-i-requires c = omega (arith, is-n c, long_later c)
+last_below-i-requires c = let j = (goal.at.last_below-i-requires c).Joined-path-lt-LIST in omega (arith, is_n j, long_later j)
 
 pub returns-then-i-eq0 : goal.returns-then-i-eq0
-returns-then-i-eq0 c = advanced-over (w c) (n c) c.last_below-i.result (is-n c) c.last_below-i.ensures c.if-i-eq0.true
+returns-then-i-eq0 c =
+    let j = (goal.at.returns-then-i-eq0 c).Joined-path-lt-LIST in
+    advanced-over c.args.w c.if-path-lt-LIST.n c.last_below-i.result (is_n j) c.last_below-i.ensures c.if-i-eq0.true
 
 pub nearer-kept-requires : goal.nearer-kept-requires
-nearer-kept-requires c = omega (arith, inside c, long (j c))
+nearer-kept-requires c =
+    let at = goal.at.nearer-kept-requires c in
+    omega (arith, inside at.Else-i-eq0 (is_n at.Joined-path-lt-LIST), long at.Joined-path-lt-LIST)
 
 pub slice_bounds-moved-end : goal.slice_bounds-moved-end
-slice_bounds-moved-end c = sym (long (j c))
+slice_bounds-moved-end c = sym (long (goal.at.slice_bounds-moved-end c).Joined-path-lt-LIST)
 
 pub moved-here-requires : goal.moved-here-requires
-moved-here-requires c = omega (arith, inside c, long (j c))
+moved-here-requires c =
+    let at = goal.at.moved-here-requires c in
+    omega (arith, inside at.Else-i-eq0 (is_n at.Joined-path-lt-LIST), long at.Joined-path-lt-LIST)
 
 pub bounds-later-p : goal.bounds-later-p
-bounds-later-p c = omega (arith, inside c)
+bounds-later-p c = let at = goal.at.bounds-later-p c in omega (arith, inside at.Else-i-eq0 (is_n at.Joined-path-lt-LIST))
 
 pub complete-requires : goal.complete-requires
-complete-requires c = let h = below c in omega (arith, h)
+complete-requires c = let at = goal.at.complete-requires c in let h = below at.Else-i-eq0 (is_n at.Joined-path-lt-LIST) in omega (arith, h)
 
 pub returns : goal.returns
 returns c =
-    advanced_on (w (j c)) (n (j c)) (i c) (is-n (j c)) (is-i c) (some c) c.nearer-kept.result c.moved-here.result c.complete.result c.nearer-kept.ensures c.moved-here.ensures c.complete.ensures
+    let at = goal.at.returns c in
+    advanced_on c.args.w c.if-path-lt-LIST.n c.last_below-i.result (is_n at.Joined-path-lt-LIST) c.last_below-i.ensures (some at.Else-i-eq0 (is_n at.Joined-path-lt-LIST)) c.nearer-kept.result c.moved-here.result c.complete.result c.nearer-kept.ensures c.moved-here.ensures c.complete.ensures

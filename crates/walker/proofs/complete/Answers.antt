@@ -4,15 +4,9 @@ use Prim.Native.Nat.{◌+◌, ◌-◌, ◌≤◌}
 use native.Mathlib.Omega.{arith}
 use lib.ListN.{length, length-set}
 use mathlib.Core.Bool.{true}
-use mathlib.Core.List.{[], ◌∷◌}
-use mathlib.Core.Logic.{inl, inr}
-use denote.Enum.Declared.{tag_of}
-use types.Run.{OneOf}
 use Rattle.turns_run.specs.declared.End.{End}
 use Rattle.turns_run.specs.declared.End.TheVariants as end
-use Rattle.turns_run.specs.contracts.End as EndTag
 use Rattle.walk.specs.Says.{is_over}
-use Rattle.walker.specs.declared.Path.{Path}
 use Rattle.walker.specs.Steps.{least_at_most, least_small, complete_on, complete-over, complete_full}
 use Rattle.rules.specs.Limits.{max_list}
 use Rattle.rules.specs.Walk.{decisions}
@@ -20,49 +14,40 @@ use Rattle.walker.specs.Walking.{completed}
 use borrow.Author.Rules.{rules}
 use Rattle.walker.proofs.complete.Goals as goal
 
--- where the loop stands
-abbrev here : tie.At-loop invariant-loop decreases-loop → Path
-here c = record { list = c.loop.list; later = c.loop.later; at = c.loop.at; end = c.loop.end }
-
-small : (c : tie.After-least invariant-loop decreases-loop) → c.least.result ≤ decisions
-small c = let l = c.before.before.before.loop in least_at_most l.w l.from c.least.result l.invariant.3 c.least.ensures
-
 -- an end of the other arm wants no more
-ended : (x : End) → OneOf (0 ∷ 1 ∷ 3 ∷ []) (tag_of EndTag.the_type x) → is_over x ≡ true
+ended : (x : End) → (x ≡ end.Unfinished → ⊥) → is_over x ≡ true
 ended (end.NotAllowed i) h = refl
 ended (end.Surplus i) h = refl
-ended end.Unfinished (inl e) = absurd (omega (arith, e))
-ended end.Unfinished (inr (inl e)) = absurd (omega (arith, e))
-ended end.Unfinished (inr (inr e)) = absurd (omega (arith, e))
+ended end.Unfinished h = absurd (h refl)
 ended (end.Verdict a) h = refl
 
 pub loop-at-init : goal.loop-at-init
 loop-at-init c = (refl, search rules, search rules, search rules)
 
 pub overflow_cast-d : goal.overflow_cast-d
-overflow_cast-d c = let h = small c in search rules
+overflow_cast-d c = let h = least_at_most c.loop-at.w c.loop-at.from c.least-d.result c.loop-at.invariant.3 c.least-d.ensures in search rules
 
 pub overflow_add-d : goal.overflow_add-d
-overflow_add-d c = let h = small c in search rules
+overflow_add-d c = let h = least_at_most c.loop-at.w c.loop-at.from c.least-d.result c.loop-at.invariant.3 c.least-d.ensures in search rules
 
 pub overflow_cast-e : goal.overflow_cast-e
-overflow_cast-e c = let h = least_small c.loop-at.w (c.least-d.result + 1) c.least-e.result (let k = small c in omega (arith, k)) c.least-e.ensures in search rules
+overflow_cast-e c = let h = least_small c.loop-at.w (c.least-d.result + 1) c.least-e.result (let k = least_at_most c.loop-at.w c.loop-at.from c.least-d.result c.loop-at.invariant.3 c.least-d.ensures in omega (arith, k)) c.least-e.ensures in search rules
 
 pub returns-in_default : goal.returns-in_default
 returns-in_default c =
     sym
     (c.loop-at.invariant.0
-    ∙ complete-over c.args.table c.loop-at.w (here c) c.loop-at.from c.least-d.result c.least-e.result c.run-ran.result c.least-d.ensures c.least-e.ensures c.run-ran.ensures c.loop-at-test.true (ended c.run-ran.result.end c.in_default.keys2))
+    ∙ complete-over c.args.table c.loop-at.w (record { list = c.loop-at.list; later = c.loop-at.later; at = c.loop-at.at; end = c.loop-at.end }) c.loop-at.from c.least-d.result c.least-e.result c.run-ran.result c.least-d.ensures c.least-e.ensures c.run-ran.ensures c.loop-at-test.true (ended c.run-ran.result.end c.in_default.not-Unfinished))
 
 pub loop-at-preserved : goal.loop-at-preserved
 loop-at-preserved c =
     let l = c.loop-at in (
       l.invariant.0
-          ∙ complete_on c.args.table l.w (here c) l.from c.least-d.result c.least-e.result c.run-ran.result c.least-d.ensures c.least-e.ensures c.run-ran.ensures c.loop-at-test.true c.in-Unfinished.is,
+          ∙ complete_on c.args.table l.w (record { list = c.loop-at.list; later = c.loop-at.later; at = c.loop-at.at; end = c.loop-at.end }) l.from c.least-d.result c.least-e.result c.run-ran.result c.least-d.ensures c.least-e.ensures c.run-ran.ensures c.loop-at-test.true c.in-Unfinished.is,
       length-set l.list l.at _ ∙ l.invariant.1,
       length-set l.later l.at _ ∙ l.invariant.2,
       omega arith,
     )
 
 pub returns : goal.returns
-returns c = sym (c.loop-at.invariant.0 ∙ complete_full c.args.table c.loop-at.w (here c) c.loop-at.from c.loop-at-test.false)
+returns c = sym (c.loop-at.invariant.0 ∙ complete_full c.args.table c.loop-at.w (record { list = c.loop-at.list; later = c.loop-at.later; at = c.loop-at.at; end = c.loop-at.end }) c.loop-at.from c.loop-at-test.false)
