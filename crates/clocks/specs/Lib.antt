@@ -3,4 +3,3 @@ pub mod Lists
 pub mod Pass
 pub mod Shift
 pub mod Clock
-pub mod Laws

@@ -4,7 +4,7 @@ use Rattle.std.proofs.Common.{sym, ◌∙◌, ap, arith, lt-ltb, le-ltb}
 use Rattle.std.proofs.lemmas.List.Edits.{sets}
 use Rattle.clocks.specs.Lists.{sets_then}
 use Rattle.rules.specs.Sheet.{filled, each}
-use Rattle.rules.specs.SheetLaws.{each-length}
+use Rattle.rules.proofs.SheetLaws.{each-length}
 use Rattle.rules.specs.Walk.{hex_digit, decision_text}
 
 abbrev pub decision_bytes : ℕ → List ℕ

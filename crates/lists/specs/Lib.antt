@@ -4,4 +4,3 @@ pub mod Judge
 pub mod Greedy
 pub mod Next
 pub mod Walk
-pub mod Code

@@ -1,3 +1,3 @@
-// Complete lists of decisions, for any machine: definitions and laws only, in specs/.
+// Complete lists of decisions, for any machine: definitions only, in specs/, and their laws, in proofs/.
 
 #![tactic(auto)]

@@ -17,14 +17,6 @@ pub mod Judge
 pub mod Walk
 pub mod Cases
 pub mod Promised
-pub mod Examples
-pub mod Vectors
-pub mod RwLockLaws
 pub mod TableLaws
-pub mod SheetLaws
 pub mod Demand
-pub mod TurnLaws
-pub mod JudgeLaws
-pub mod AfterLaws
 pub mod TouchLaws
-pub mod NoteLaws

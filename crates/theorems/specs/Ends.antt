@@ -1,6 +1,5 @@
--- No run of an accepted table meets a type's end: wherever a count rises, it rises by one.
-use Rattle.std.specs.Prelude.{◌≡◌, List, ℕ, ◌+◌, ◌<◌, get_or}
-use Rattle.std.proofs.Common.{arith}
+-- No run of an accepted table meets a type's end: wherever a count rises, it rises by one. The laws are in proofs/Ends.antt.
+use Rattle.std.specs.Prelude.{◌≡◌, List, ℕ, ◌+◌, get_or}
 use Rattle.clocks.specs.Clock.{risen, join_of}
 use Rattle.clocks.specs.declared.thread.ThreadId.{ThreadId}
 use Rattle.rules.specs.declared.object.ObjectId.{ObjectId}
@@ -9,17 +8,11 @@ use Rattle.rules.specs.declared.thread.Thread.{Thread}
 use Rattle.rules.specs.declared.table.Call.{Call}
 use Rattle.rules.specs.declared.table.Table.{Table}
 use Rattle.rules.specs.declared.world.World.{World}
-use Rattle.rules.specs.Limits.{max_operations}
 use Rattle.rules.specs.Ground.{thread_at}
-use Rattle.rules.specs.Table.{accepted, read_table}
 use Rattle.rules.specs.Effect.{last_dependent_access, effect}
 use Rattle.rules.specs.Turn.{thread_in, entry_in}
-use Rattle.theorems.specs.Touches.{keeps_position}
-use Rattle.theorems.specs.Reached.{Shown, Reached}
-use Rattle.theorems.specs.Each.{Each, each_both}
-use Rattle.theorems.specs.Turns.{turn_rises}
-use Rattle.theorems.specs.Counts.{arc_below, reading_below}
-use Rattle.theorems.specs.Clocks.{most_own, position_few, dependence_below, counts_below}
+use Rattle.theorems.specs.Reached.{Reached}
+use Rattle.theorems.specs.Each.{Each}
 
 -- Before an effect of the thread t: its own count, the Arc's count and the cell's readers rise by one if the effect raises them; and so does its
 -- position after the effect, on whichever object.
@@ -38,40 +31,3 @@ pub record NoEnd (table : Table) (list : List ℕ) (w : World) (d : ℕ) : Type 
       → risen 255 (get_or (join_of (thread_in w t).dependence (last_dependent_access c (entry_in w o)).version).counts t.0 0)
       ≡ get_or (join_of (thread_in w t).dependence (last_dependent_access c (entry_in w o)).version).counts t.0 0 + 1
   pub effects : Reached table list w → Each Plain table w d
-
--- a count below its type's end rises by one
-plain : (end n : ℕ) → n < end → risen end n ≡ n + 1
-plain end n l = omega (arith, l)
-
--- a position and an own count that have room
-abbrev Thin : ThreadId → Call → Entry → List Thread → Type 0
-Thin t c e ts = ((thread_at ts t).position < max_operations) × (get_or (thread_at ts t).clock.counts t.0 0 < most_own)
-
--- an Arc's count and a cell's readers that have room
-abbrev Few : ThreadId → Call → Entry → List Thread → Type 0
-Few t c e ts = (e.arc.ref_cnt < 193) × (e.cell.is_reading < 192)
-
--- every effect of a decision
-plain_effects : (bs list : List ℕ) (table : Table) (w : World) → read_table bs ≡ accepted table → Reached table list w → (d : ℕ) → Each Plain table w d
-plain_effects bs list table w a e d =
-    let few : Each Few table w d =
-    each_both (λ t c x ts. x.arc.ref_cnt < 193) (λ t c x ts. x.cell.is_reading < 192) Few d (λ c x ts p q. (p, q)) table w (arc_below bs list table w a e d)
-    (reading_below bs list table w a e d) in
-    each_both Thin Few Plain d
-    (λ c x ts p q.
-    record {
-      position = λ o. plain 255 _ (omega (arith, keeps_position c (record { 0 = d }) o x ts, p.0));
-      own = plain 255 _ (omega (arith, p.1));
-      arc = plain 65535 _ (omega (arith, q.0));
-      readers = plain 65535 _ (omega (arith, q.1));
-    }) table w (counts_below bs list table w a e d) few
-
--- every world that the sheet of an accepted table shows
-pub no_end : (bs list : List ℕ) (table : Table) (w : World) → read_table bs ≡ accepted table → Shown table list w → (d : ℕ) → NoEnd table list w d
-no_end bs list table w a e d =
-    record {
-      turn = turn_rises bs list table w a e;
-      position = λ t. plain 255 _ (omega (arith, position_few bs list table w a e t));
-      dependence = λ t x o. plain 255 _ (omega (arith, dependence_below bs list table w a e t x o));
-      effects = λ r. plain_effects bs list table w a r d;
-    }

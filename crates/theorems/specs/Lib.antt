@@ -3,17 +3,10 @@ pub mod Touches
 pub mod Shape
 pub mod Stage
 pub mod Falling
-pub mod Allowed
-pub mod Machine
-pub mod Accepted
-pub mod Length
-pub mod Meets
 pub mod Walked
-pub mod Coded
 pub mod Places
 pub mod Reached
 pub mod Each
-pub mod Turns
 pub mod Sums
 pub mod Done
 pub mod Counting
@@ -25,7 +18,6 @@ pub mod Place
 pub mod Moves
 pub mod Weight
 pub mod Others
-pub mod Own
 pub mod Clocks
 pub mod Named
 pub mod Range

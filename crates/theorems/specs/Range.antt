@@ -1,46 +1,24 @@
--- The lists of threads, of objects and of a clock's places keep their lengths. So a thread that acts is there, and its place of every clock is.
-use Rattle.std.specs.Prelude.{◌≡◌, refl, List, ℕ, ◌<◌, length}
-use Rattle.std.proofs.Common.{◌∙◌, length-set}
-use Rattle.std.proofs.lemmas.List.{length-map}
-use Rattle.clocks.specs.Clock.{max_threads, join_of, inc_of}
-use Rattle.clocks.specs.Laws.{join_length, raised-length}
+-- The lists of threads, of objects and of a clock's places keep their lengths. So a thread that acts is there, and its place of every clock is. The laws are in proofs/Range.antt.
+use Rattle.std.specs.Prelude.{◌≡◌, List, ℕ, ◌<◌, length}
+use Rattle.clocks.specs.Clock.{max_threads}
 use Rattle.clocks.specs.declared.clock.Clock.{Clock}
 use Rattle.clocks.specs.declared.thread.ThreadId.{ThreadId}
 use Rattle.rules.specs.declared.object.Entry.{Entry}
 use Rattle.rules.specs.declared.thread.Phase.{Phase}
 use Rattle.rules.specs.declared.thread.Thread.{Thread}
 use Rattle.rules.specs.declared.table.Call.{Call}
-use Rattle.rules.specs.declared.table.Table.{Table}
 use Rattle.rules.specs.declared.world.World.{World}
 use Rattle.rules.specs.Limits.{max_objects}
 use Rattle.rules.specs.Ground.{thread_at}
-use Rattle.rules.specs.Object.{new_entry}
-use Rattle.rules.specs.Table.{accepted, read_table}
-use Rattle.rules.specs.TableLaws.{Within, read-within}
-use Rattle.rules.specs.Turn.{start, dependence, decide}
-use Rattle.theorems.specs.Falling.{Good}
-use Rattle.theorems.specs.Reached.{Shown, Reached, shown_by, reached-shown, reached_good}
-use Rattle.theorems.specs.Named.{objects_there}
-use Rattle.theorems.specs.Steady.{Steady, steady}
-use Rattle.theorems.specs.Each.{Each, Begins, Answers, decide-each, decide_passes}
-use Rattle.theorems.specs.Kept.{Object, start_threads, start_objects}
+use Rattle.theorems.specs.Steady.{Steady}
+use Rattle.theorems.specs.Kept.{Object}
 
 -- all places are there
 abbrev pub Full : Clock → Type 0
 Full c = length c.counts ≡ max_threads
 
--- a join has as many
-full_join : (c d : Clock) → Full c → Full d → Full (join_of c d)
-unfolding join_of
-full_join c d p q = join_length c.counts d.counts ∙ p
-
--- and a clock whose count rises
-full_inc : (c : Clock) (t : ThreadId) → Full c → Full (inc_of c t)
-unfolding inc_of
-full_inc c t p = raised-length c.counts t.0 ∙ p
-
 -- nothing is asked of positions and phases here
-abbrev any : ℕ → ℕ → Phase → Type 0
+abbrev pub any : ℕ → ℕ → Phase → Type 0
 any j q f = Unit {0}
 
 -- all threads and objects of a world are there, their clocks full
@@ -50,34 +28,3 @@ Lengths w = Steady Full Full any (λ es. length es ≡ max_objects) w.threads w.
 -- the thread that acts is there, and so are all places of its clocks and of the object's
 abbrev pub There : ThreadId → Call → Entry → List Thread → Type 0
 There t c e ts = (t.0 < max_threads) × (length ts ≡ max_threads) × Full (thread_at ts t).clock × Full (thread_at ts t).dependence × Object Full Full e
-
--- a turn of t, and an answer to a question
-turn : (t : ThreadId) → t.0 < max_threads → (table : Table) (w : World) → Lengths w → Begins table w t There (λ n v. Lengths v) Lengths × Answers table w t Lengths
-turn t within table w h =
-    steady Full Full any (λ es. length es ≡ max_objects) full_join refl full_join refl (λ es o e l. length-set es o.0 e ∙ l) t (λ c. full_inc c t) (λ c. full_inc c t) (λ q f. tt) There
-    (λ c e ts i x. (within, i.0, (i.1 t.0).0, (i.1 t.0).1, x)) Lengths (λ v i. i) table w h
-
--- the start of a table with its places for objects
-start_whole : (table : Table) → length table.objects ≡ max_objects → Lengths (start table)
-unfolding start
-start_whole table l =
-    record { threads = start_threads Full Full any refl refl (λ j. tt) table; objects = start_objects Full Full refl refl table; store = length-map table.objects new_entry ∙ l }
-
-module _ (table : Table) (n : Within table) (w : World) (g : Good table w) (h : Lengths w) where
-  -- each decision keeps it
-  decide_whole : (d : ℕ) → Lengths (decide table w d).world
-  decide_whole = decide_passes table n w g There (λ t m v. Lengths v) Lengths h (λ t l. (turn t l.within table w h).0) (λ t q r. (turn t r.0 table w h).1)
-
-  -- and what an effect takes is there
-  each_there : (d : ℕ) → Each There table w d
-  each_there = decide-each table n w g There (λ t m v. Lengths v) Lengths h (λ t l. (turn t l.within table w h).0) (λ t q r. (turn t r.0 table w h).1)
-
--- in every world that the sheet of an accepted table shows
-pub lengths : (bs list : List ℕ) (table : Table) (w : World) → read_table bs ≡ accepted table → Shown table list w → Lengths w
-lengths bs list table w a e =
-    let h = read-within bs table a in
-    (shown_by table h.0 (λ u v. Lengths v) (λ u v d g l i. decide_whole table h.0 v g i d) h.1 (start_whole table (objects_there bs table a)) list w e).1
-
--- before each effect of a further decision
-pub there : (bs list : List ℕ) (table : Table) (w : World) → read_table bs ≡ accepted table → Reached table list w → (d : ℕ) → Each There table w d
-there bs list table w a e d = each_there table (read-within bs table a).0 w (reached_good bs list table w a e) (lengths bs list table w a (reached-shown table list w e)) d

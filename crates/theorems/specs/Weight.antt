@@ -1,6 +1,5 @@
--- What a thread's place of every clock may have counted, by its position and phase.
+-- What a thread's place of every clock may have counted, by its position and phase. The laws are in proofs/Weight.antt.
 use Rattle.std.specs.Prelude.{◌≡◌, List, ℕ, ◌+◌, ◌*◌, ◌≤◌, ◌<◌, length, get_or}
-use Rattle.std.proofs.Common.{arith, length-drop}
 use Rattle.clocks.specs.declared.thread.ThreadId.{ThreadId}
 use Rattle.rules.specs.declared.object.Entry.{Entry}
 use Rattle.rules.specs.declared.thread.Phase.{Phase}
@@ -8,13 +7,9 @@ use Rattle.rules.specs.declared.thread.Phase.TheVariants.{Nothing, Announced, Pa
 use Rattle.rules.specs.declared.thread.Thread.{Thread}
 use Rattle.rules.specs.declared.table.Call.{Call}
 use Rattle.rules.specs.declared.table.Op.{Op}
-use Rattle.rules.specs.declared.table.Table.{Table}
 use Rattle.rules.specs.declared.world.World.{World}
 use Rattle.rules.specs.Limits.{max_operations}
 use Rattle.rules.specs.Ground.{thread_at}
-use Rattle.rules.specs.Table.{ops_of}
-use Rattle.rules.specs.TableLaws.{ops_counted, Within}
-use Rattle.rules.specs.Turn.{thread_in, ops_left}
 use Rattle.theorems.specs.Moves.{Clocks}
 
 -- What a thread's dependence count may be: two for each operation done, since a wait has two turns, and one for a wait that is queued.
@@ -23,10 +18,6 @@ dependence_of p Nothing = 2 * p
 dependence_of p (Announced a) = 2 * p
 dependence_of p Parked = 2 * p + 1
 dependence_of p (Retaking a) = 2 * p + 1
-
--- the operations done and those left
-pub room : (table : Table) → Within table → (w : World) (t : ThreadId) → (thread_in w t).position ≤ max_operations → (thread_in w t).position + length (ops_left table w t) ≤ max_operations
-room table n w t l = omega (arith, l, length-drop (thread_in w t).position (ops_of table t.0), ops_counted table t.0, n.most t.0)
 
 module _ (k : ℕ) where
   -- thread k has done b operations, no more than it may have, and its dependence count may be c

@@ -22,7 +22,7 @@ use Rattle.rules.specs.declared.world.World.{World}
 use Rattle.rules.specs.Limits.{max_objects}
 use Rattle.rules.specs.Object.{no_object, new_entry}
 use Rattle.rules.specs.Sheet.{sheet_of, sheet_length}
-use Rattle.rules.specs.SheetLaws.{sheet_over}
+use Rattle.rules.proofs.SheetLaws.{sheet_over}
 use Rattle.rules.specs.Judge.{Verdict, step, Given, untouched, shown, judge_table, judge_of}
 use Rattle.rules.specs.Table.{Read, refused, accepted, read_table, read_of}
 use Rattle.rules.specs.Turn.{start}

@@ -26,8 +26,8 @@ use Rattle.rules.specs.declared.world.World.{World}
 use Rattle.rules.specs.Ground.{with_clock, thread_at, is_fine}
 use Rattle.rules.specs.Object.{new_entry, no_object, entry_at, put_entry}
 use Rattle.rules.specs.Effect.{wait_of, last_dependent_access, doing, Effect, effect}
-use Rattle.rules.specs.TableLaws.{split}
-use Rattle.rules.specs.TouchLaws.{touched-read}
+use Rattle.rules.proofs.TableLaws.{split}
+use Rattle.rules.proofs.TouchLaws.{touched-read}
 use Rattle.rules.specs.Turn.{dependence}
 use Rattle.turns_steps.specs.declared.Move.{Move}
 use Rattle.turns_steps.specs.declared.Move.TheVariants.{Begins, Answers, Goes, Waits}

@@ -43,7 +43,7 @@ use Rattle.rules.specs.Object.{new_entry, no_object}
 use Rattle.rules.specs.Limits.{max_operations, op_places}
 use Rattle.rules.specs.Effect.{is_free, asks, wait_of, Effect, effect}
 use Rattle.rules.specs.Table.{no_op, ops_of}
-use Rattle.rules.specs.TableLaws.{split, ops_few, ops-next}
+use Rattle.rules.proofs.TableLaws.{split, ops_few, ops-next}
 use Rattle.rules.specs.Turn as turn
 use Rattle.rules.specs.Turn.{thread_in, entry_in, with_threads, with_turn, with_asked, wants, done, refused, after_turn, after_step, all_ended, any_runnable, mutex_of, settled, ending_of, spot, advance, operate, go_on, turn_of, question, ops_left, begin, decide_at, is_allowed, decide, leak_check}
 use Rattle.rules.specs.Judge.{Verdict, outcome_of, step}

@@ -59,10 +59,10 @@ use Rattle.rules.specs.Notify as notify
 use Rattle.rules.specs.Condvar as condvar
 use Rattle.rules.specs.Cell as cell
 use Rattle.rules.specs.Effect.{is_free, wait_of, set_last_access, doing, Effect, effect}
-use Rattle.rules.specs.TableLaws.{split}
+use Rattle.rules.proofs.TableLaws.{split}
 use Rattle.rules.specs.Turn.{dependence, advance, retake, park, wait}
 use Rattle.rules.specs.TouchLaws.{resumed}
-use Rattle.rules.specs.NoteLaws.{effect_depends, recorded, operate-after}
+use Rattle.rules.proofs.NoteLaws.{effect_depends, recorded, operate-after}
 use Rattle.turns_steps.specs.declared.Move.{Move}
 use Rattle.turns_steps.specs.declared.Move.TheVariants.{Begins, Answers, Goes, Waits}
 use Rattle.turns_steps.specs.declared.Acting.{Acting}

@@ -26,7 +26,7 @@ use Rattle.rules.specs.Ground.{thread_at, put_thread, with_state, with_phase, is
 use Rattle.rules.specs.Object.{announced}
 use Rattle.rules.specs.Mutex as mutex
 use Rattle.rules.specs.Effect.{is_free, action_of, is_disabled, asks, wait_of}
-use Rattle.rules.specs.TableLaws.{split}
+use Rattle.rules.proofs.TableLaws.{split}
 use Rattle.rules.specs.Turn.{mutex_of, announce_op, retake, ended, is_allowed}
 use Rattle.turns_steps.specs.declared.Move.{Move}
 use Rattle.turns_steps.specs.declared.Move.TheVariants.{Begins, Answers, Goes, Waits}

@@ -3,7 +3,7 @@ use Rattle.std.specs.Prelude.{◌≡◌, Bool, true, false, List, [], ◌∷◌,
 use Rattle.std.proofs.Common.{sym, ◌∙◌, ap, subst, add-one, arith, length-set, take-suc-set}
 use Rattle.std.proofs.Math.Seq.{append_snoc}
 use Rattle.lists.specs.Next.{first_of}
-use Rattle.lists.specs.Code.{raised-smallest, raised_last, raised-wants}
+use Rattle.lists.proofs.CodeLaws.{raised-smallest, raised_last, raised-wants}
 use Rattle.rules.specs.declared.table.Table.{Table}
 use Rattle.rules.specs.declared.world.World.{World}
 use Rattle.rules.specs.Limits.{max_list}
@@ -12,8 +12,8 @@ use Rattle.rules.specs.Judge.{step}
 use Rattle.rules.specs.Walk.{decisions, left}
 use Rattle.walk.specs.declared.Completion.{Completion}
 use Rattle.theorems.specs.Falling.{Good}
-use Rattle.theorems.specs.Machine.{bounded, some_allowed, keeps, falls}
-use Rattle.theorems.specs.Length.{left_some}
+use Rattle.theorems.proofs.Machine.{bounded, some_allowed, keeps, falls}
+use Rattle.theorems.proofs.Length.{left_some}
 use Rattle.walk.specs.Says.{With, Extends, least, Advances, Completable, Adds, Continues, Completes}
 
 module _ (c : Completion) (d : ℕ) (r : Completion) (n : Completable c) where

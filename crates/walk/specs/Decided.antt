@@ -4,7 +4,8 @@ use Rattle.std.proofs.Common.{sym, ◌∙◌, arith}
 use Rattle.std.proofs.Math.Path.{subst}
 use Rattle.lists.specs.Rules.{Outcome, refused, done, wants, allowed}
 use Rattle.lists.specs.Judge.{judge_at, judge}
-use Rattle.lists.specs.Greedy.{seek, seek_sought, smallest}
+use Rattle.lists.specs.Greedy.{seek, smallest}
+use Rattle.lists.proofs.Greedy.{seek_sought}
 use Rattle.rules.specs.declared.table.Table.{Table}
 use Rattle.rules.specs.declared.world.World.{World}
 use Rattle.rules.specs.Limits.{max_list}
@@ -16,7 +17,7 @@ use Rattle.turns_run.specs.declared.End.TheVariants as end
 use Rattle.turns_run.specs.declared.Ran.{Ran}
 use Rattle.turns_run.specs.Run.{ran_of}
 use Rattle.walk.specs.declared.Completion.{Completion}
-use Rattle.theorems.specs.Allowed.{allowed_is}
+use Rattle.theorems.proofs.Allowed.{allowed_is}
 use Rattle.walk.specs.Says.{stage_at, stage_of, is_over, Leads, Extends, Advances}
 
 pub decided_one : (table : Table) (w : World) (d : ℕ) → stage_of (ran_of (judge (step table) 0 w (d ∷ []))) ≡ step table w d

@@ -8,7 +8,7 @@ use borrow.Author.Tests.{le-leb, lt-leb}
 use Rattle.lists.specs.Judge.{Judged, not_allowed, surplus, unfinished, verdict, judge}
 use Rattle.lists.specs.Next.{Pivot, finish, raised}
 use Rattle.lists.specs.Next as next
-use Rattle.lists.specs.Code.{copied_length}
+use Rattle.lists.proofs.CodeLaws.{copied_length}
 use Rattle.rules.specs.declared.answer.Answer.{Answer}
 use Rattle.rules.specs.declared.answer.Answer.TheVariants.{ListWritten, TooShort, NotAllowed, Surplus, NotComplete, NoLaterList}
 use Rattle.rules.specs.declared.table.Table.{Table}
@@ -17,7 +17,7 @@ use Rattle.rules.specs.declared.table.TableRead.{TableRead}
 use Rattle.rules.specs.declared.world.World.{World}
 use Rattle.rules.specs.Limits.{max_list}
 use Rattle.rules.specs.Table.{accepted, Read, read_table, read_of}
-use Rattle.rules.specs.TableLaws.{read-within}
+use Rattle.rules.proofs.TableLaws.{read-within}
 use Rattle.rules.specs.Turn.{start}
 use Rattle.rules.specs.Judge.{Verdict, step, Given, untouched}
 use Rattle.rules.specs.Walk.{decisions, left, hand_over, first_table, first_of, next_list, next_judged, next_table, next_of}
@@ -29,8 +29,8 @@ use Rattle.walk.specs.declared.Completion.{Completion}
 use Rattle.walk.specs.declared.Mark.{Mark}
 use Rattle.walk.specs.declared.Passed.{Passed}
 use Rattle.theorems.specs.Falling.{Good}
-use Rattle.theorems.specs.Length.{start_left, left_some}
-use Rattle.theorems.specs.Accepted.{start_good}
+use Rattle.theorems.proofs.Length.{start_left, left_some}
+use Rattle.theorems.proofs.Accepted.{start_good}
 use Rattle.walk.specs.Says.{Completable, Continues, Completes, pivot_of, Started, PassSays, Raisable, raised_to}
 
 module _ (from buffer : List ℕ) (n : ℕ) (h : n ≤ length from) where

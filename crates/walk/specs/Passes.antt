@@ -10,7 +10,7 @@ use Rattle.lists.specs.Rules.{refused, wants}
 use Rattle.lists.specs.Judge.{Judged}
 use Rattle.lists.specs.Greedy.{seek, larger}
 use Rattle.lists.specs.Next.{Pivot, at, pass}
-use Rattle.lists.specs.Code.{pass_end, pass-refused, pass-done, pass-wants, judge_end_lem, judge-refused, judge_last, judge_surplus, judge-wants}
+use Rattle.lists.proofs.CodeLaws.{pass_end, pass-refused, pass-done, pass-wants, judge_end_lem, judge-refused, judge_last, judge_surplus, judge-wants}
 use Rattle.rules.specs.declared.answer.Answer.{Answer}
 use Rattle.rules.specs.declared.table.Table.{Table}
 use Rattle.rules.specs.declared.world.World.{World}
@@ -20,8 +20,8 @@ use Rattle.rules.specs.Walk.{decisions, left}
 use Rattle.turns_run.specs.declared.End.TheVariants as end
 use Rattle.turns_run.specs.Run.{ran_of}
 use Rattle.walk.specs.declared.Mark.{Mark}
-use Rattle.theorems.specs.Machine.{keeps, falls}
-use Rattle.theorems.specs.Accepted.{start_good}
+use Rattle.theorems.proofs.Machine.{keeps, falls}
+use Rattle.theorems.proofs.Accepted.{start_good}
 use Rattle.walk.specs.Decided.{least_is}
 use Rattle.walk.specs.Says.{stage_at, pivot_of, Marked, Started, Placed, Passing, PassSays}
 

@@ -10,9 +10,10 @@ use Rattle.std.proofs.Math.ListN.{length-set}
 use Rattle.std.proofs.Math.Seq.{append_snoc}
 use Rattle.lists.specs.Rules.{Outcome, refused, done, wants, allowedb, allowed}
 use Rattle.lists.specs.Judge.{verdict, judge}
-use Rattle.lists.specs.Greedy.{larger, smallest, smallest-allowed}
+use Rattle.lists.specs.Greedy.{larger, smallest}
+use Rattle.lists.proofs.Greedy.{smallest-allowed}
 use Rattle.lists.specs.Next.{raised}
-use Rattle.lists.specs.Code.{raised-smallest, raised_last, raised-wants}
+use Rattle.lists.proofs.CodeLaws.{raised-smallest, raised_last, raised-wants}
 use Rattle.rules.specs.declared.table.Table.{Table}
 use Rattle.rules.specs.declared.world.World.{World}
 use Rattle.rules.specs.Limits.{max_list}
@@ -24,8 +25,8 @@ use Rattle.turns_run.specs.declared.End.TheVariants as end
 use Rattle.turns_run.specs.declared.Ran.{Ran}
 use Rattle.turns_run.specs.Run.{ran_of}
 use Rattle.theorems.specs.Falling.{Good}
-use Rattle.theorems.specs.Machine.{bounded, some_allowed, keeps, falls}
-use Rattle.theorems.specs.Length.{left_some}
+use Rattle.theorems.proofs.Machine.{bounded, some_allowed, keeps, falls}
+use Rattle.theorems.proofs.Length.{left_some}
 use Rattle.walk.specs.Decided.{least_is}
 use Rattle.walker.specs.declared.Path.{Path}
 use Rattle.walker.specs.Walking.{least_from, ran_by, with, completed}

@@ -14,27 +14,31 @@ use Rattle.std.proofs.lemmas.List.{length-replicate, take-append-le}
 use Rattle.std.proofs.Math.Seq.{take-add}
 use borrow.Author.Tests.{ltb-true, ltb-false, leb-true, leb-false}
 use Rattle.lists.specs.Rules.{allowed, Complete}
-use Rattle.lists.specs.Judge.{Judged, is_verdict, verdict, judge, judge-complete}
-use Rattle.lists.specs.Greedy.{larger, larger-allowed, smallest-allowed}
-use Rattle.lists.specs.Code.{seek_hit, raised-smallest}
-use Rattle.lists.specs.Next.{raised, later, first_of, next_of, next_of-later}
+use Rattle.lists.specs.Judge.{Judged, is_verdict, verdict, judge}
+use Rattle.lists.proofs.Judge.{judge-complete}
+use Rattle.lists.specs.Greedy.{larger}
+use Rattle.lists.proofs.Greedy.{larger-allowed, smallest-allowed}
+use Rattle.lists.proofs.CodeLaws.{seek_hit, raised-smallest}
+use Rattle.lists.specs.Next.{raised, later, first_of, next_of}
+use Rattle.lists.proofs.Next.{next_of-later}
 use Rattle.lists.specs.Walk.{walk_from, walk_on, walk}
 use Rattle.rules.specs.declared.table.Table.{Table}
 use Rattle.rules.specs.declared.world.World.{World}
 use Rattle.rules.specs.Limits.{max_list}
 use Rattle.rules.specs.Table.{accepted, read_table}
-use Rattle.rules.specs.TableLaws.{Within, read-within, split}
+use Rattle.rules.specs.TableLaws.{Within}
+use Rattle.rules.proofs.TableLaws.{read-within, split}
 use Rattle.rules.specs.Turn.{is_allowed, start}
 use Rattle.rules.specs.Judge.{Verdict, step}
 use Rattle.rules.specs.Walk.{decisions, left}
 use Rattle.turns_run.specs.declared.End.{End}
 use Rattle.turns_run.specs.declared.End.TheVariants as end
 use Rattle.turns_run.specs.Run.{ran_of}
-use Rattle.theorems.specs.Allowed.{allowed_is}
+use Rattle.theorems.proofs.Allowed.{allowed_is}
 use Rattle.theorems.specs.Falling.{Good}
-use Rattle.theorems.specs.Machine.{bounded, some_allowed, keeps, falls}
-use Rattle.theorems.specs.Accepted.{start_good}
-use Rattle.theorems.specs.Length.{start_left}
+use Rattle.theorems.proofs.Machine.{bounded, some_allowed, keeps, falls}
+use Rattle.theorems.proofs.Accepted.{start_good}
+use Rattle.theorems.proofs.Length.{start_left}
 use Rattle.walk.specs.Says.{Started}
 use Rattle.walker.specs.declared.Path.{Path}
 use Rattle.walker.specs.declared.Kept.{Kept}

@@ -7,11 +7,11 @@ use Rattle.std.proofs.lemmas.Bool.{false≢true, lt-leb}
 use Prim.Native.Nat.{ℕ, zero, suc, ◌+◌, ◌-◌, ◌*◌, ◌≤◌, ◌<◌, min}
 use Rattle.std.proofs.Math.Decide.{dec_lt}
 use Rattle.lists.specs.Judge.{judge}
-use Rattle.lists.specs.Greedy.{seek_sought}
+use Rattle.lists.proofs.Greedy.{seek_sought}
 use Rattle.rules.specs.declared.table.Table.{Table}
 use Rattle.rules.specs.declared.world.World.{World}
 use Rattle.rules.specs.Limits.{max_list}
-use Rattle.rules.specs.TableLaws.{split}
+use Rattle.rules.proofs.TableLaws.{split}
 use Rattle.rules.specs.Turn.{is_allowed, start}
 use Rattle.rules.specs.Judge.{step}
 use Rattle.rules.specs.Walk.{decisions}

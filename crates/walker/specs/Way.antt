@@ -11,7 +11,8 @@ use Prim.Native.Nat.{ℕ, zero, suc, ◌+◌, ◌≤◌, ◌<◌}
 use native.Mathlib.Omega.{arith}
 use Rattle.std.proofs.Math.ListN.{length}
 use borrow.Author.Tests.{lt-ltb, le-ltb}
-use Rattle.lists.specs.Rules.{Outcome, refused, done, wants, Complete, Done, Wants, complete-nil, complete_cases, complete_tail}
+use Rattle.lists.specs.Rules.{Outcome, refused, done, wants, Complete, Done, Wants}
+use Rattle.lists.proofs.Rules.{complete-nil, complete_cases, complete_tail}
 use Rattle.lists.specs.Judge.{unfinished, judge}
 use Rattle.lists.specs.Greedy.{go_on, larger}
 use Rattle.lists.specs.Next.{raised, later}

@@ -3,7 +3,7 @@ use mathlib.Core.Path.{sym, ◌∙◌, ap}
 use Prim.Native.Nat.{◌+◌}
 use native.Mathlib.Omega.{arith}
 use Rattle.rules.specs.RwLock.{with_reader}
-use Rattle.rules.specs.RwLockLaws.{entered_fits}
+use Rattle.rules.proofs.RwLockLaws.{entered_fits}
 use borrow.Author.Rules.{rules}
 use Rattle.objects_readers.proofs.with_reader.Goals as goal
 

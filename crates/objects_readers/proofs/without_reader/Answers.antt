@@ -3,7 +3,7 @@ use mathlib.Core.Path.{sym, ◌∙◌, ap}
 use Prim.Native.Nat.{◌-◌}
 use native.Mathlib.Omega.{arith}
 use Rattle.rules.specs.RwLock.{without_reader}
-use Rattle.rules.specs.RwLockLaws.{member_bit}
+use Rattle.rules.proofs.RwLockLaws.{member_bit}
 use borrow.Author.Rules.{rules}
 use Rattle.objects_readers.proofs.without_reader.Goals as goal
 

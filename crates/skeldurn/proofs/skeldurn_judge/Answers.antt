@@ -6,7 +6,7 @@ use Rattle.rules.specs.declared.answer.Numbers.{Numbers}
 use Rattle.rules.specs.Limits.{max_sheet}
 use Rattle.rules.specs.Answer.{numbers_of}
 use Rattle.rules.specs.Judge.{Given, judge_of}
-use Rattle.theorems.specs.Places.{judge-place}
+use Rattle.theorems.proofs.Places.{judge-place}
 use Rattle.word.specs.Word.{Fits, told}
 use borrow.Author.Rules.{rules}
 use Rattle.skeldurn.proofs.skeldurn_judge.Goals as goal

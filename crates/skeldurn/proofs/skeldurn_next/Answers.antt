@@ -7,7 +7,7 @@ use Rattle.rules.specs.Limits.{max_sheet}
 use Rattle.rules.specs.Answer.{numbers_of}
 use Rattle.rules.specs.Judge.{Given}
 use Rattle.rules.specs.Walk.{next_of}
-use Rattle.theorems.specs.Places.{next_place}
+use Rattle.theorems.proofs.Places.{next_place}
 use Rattle.word.specs.Word.{Fits, told}
 use borrow.Author.Rules.{rules}
 use Rattle.skeldurn.proofs.skeldurn_next.Goals as goal

@@ -8,7 +8,7 @@ use lib.ListN.{length, drop, drop_of_length-le}
 use borrow.Author.Tests.{not-true, not-false}
 use Rattle.rules.specs.declared.thread.Thread.{Thread}
 use Rattle.rules.specs.Turn.{all_ended}
-use Rattle.rules.specs.AfterLaws.{ended_at}
+use Rattle.rules.proofs.AfterLaws.{ended_at}
 use borrow.Author.Rules.{rules}
 use Rattle.turns_after.proofs.all_ended.Goals as goal
 

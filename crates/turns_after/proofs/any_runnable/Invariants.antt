@@ -7,7 +7,7 @@ use native.Mathlib.Omega.{arith}
 use lib.ListN.{length, drop, drop_of_length-le}
 use Rattle.rules.specs.declared.thread.Thread.{Thread}
 use Rattle.rules.specs.Turn.{any_runnable}
-use Rattle.rules.specs.AfterLaws.{runnable_at}
+use Rattle.rules.proofs.AfterLaws.{runnable_at}
 use borrow.Author.Rules.{rules}
 use Rattle.turns_after.proofs.any_runnable.Given as goal
 

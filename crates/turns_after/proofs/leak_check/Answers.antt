@@ -6,7 +6,7 @@ use native.Mathlib.Omega.{arith}
 use lib.ListN.{length, drop, drop_of_length-le}
 use Rattle.rules.specs.declared.object.Entry.{Entry}
 use Rattle.rules.specs.Turn.{leak_check}
-use Rattle.rules.specs.AfterLaws.{leak_passed, leak_here}
+use Rattle.rules.proofs.AfterLaws.{leak_passed, leak_here}
 use borrow.Author.Rules.{rules}
 use Rattle.turns_after.proofs.leak_check.Goals as goal
 

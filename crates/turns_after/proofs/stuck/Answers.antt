@@ -8,7 +8,7 @@ use borrow.Author.Tests.{not-true, not-false}
 use Rattle.rules.specs.declared.thread.Thread.{Thread}
 use Rattle.rules.specs.declared.object.ObjectId.{ObjectId}
 use Rattle.rules.specs.Turn.{stuck}
-use Rattle.rules.specs.AfterLaws.{stuck-passed, stuck-here}
+use Rattle.rules.proofs.AfterLaws.{stuck-passed, stuck-here}
 use borrow.Author.Rules.{rules}
 use Rattle.turns_after.proofs.stuck.Goals as goal
 

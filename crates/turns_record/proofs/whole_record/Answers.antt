@@ -2,7 +2,7 @@
 use mathlib.Core.Path.{sym, ◌∙◌}
 use borrow.Author.Tests.{eq-eqb, ne_eqb}
 use Rattle.rules.specs.Table.{whole_record}
-use Rattle.rules.specs.TableLaws.{object_low, operation_low}
+use Rattle.rules.proofs.TableLaws.{object_low, operation_low}
 use borrow.Author.Rules.{rules}
 use Rattle.turns_record.proofs.whole_record.Goals as goal
 

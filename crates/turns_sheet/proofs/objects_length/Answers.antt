@@ -8,7 +8,7 @@ use Rattle.clocks.specs.Lists.{take_min}
 use Rattle.rules.specs.declared.table.Made.{Made}
 use Rattle.rules.specs.Limits.{max_objects}
 use Rattle.rules.specs.Sheet.{objects_length}
-use Rattle.rules.specs.SheetLaws.{record_small, first_small, objects_longer}
+use Rattle.rules.proofs.SheetLaws.{record_small, first_small, objects_longer}
 use borrow.Author.Rules.{rules}
 use Rattle.turns_sheet.proofs.objects_length.Goals as goal
 

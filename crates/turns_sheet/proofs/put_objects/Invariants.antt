@@ -11,7 +11,7 @@ use Rattle.rules.specs.declared.table.Made.{Made}
 use Rattle.rules.specs.declared.object.Entry.{Entry}
 use Rattle.rules.specs.Limits.{max_objects}
 use Rattle.rules.specs.Sheet.{objects_bytes, objects_length}
-use Rattle.rules.specs.SheetLaws.{record_small, first_small, objects_longer, objects_written}
+use Rattle.rules.proofs.SheetLaws.{record_small, first_small, objects_longer, objects_written}
 use borrow.Author.Rules.{rules}
 use Rattle.turns_sheet.proofs.put_objects.Given as goal
 

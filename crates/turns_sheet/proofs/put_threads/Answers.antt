@@ -6,7 +6,7 @@ use lib.ListN.{length, get_or}
 use lib.Seq.{sets, length-sets}
 use Rattle.rules.specs.Ground.{absent}
 use Rattle.rules.specs.Sheet.{thread_bytes, each, filled}
-use Rattle.rules.specs.SheetLaws.{thread-length, each-written}
+use Rattle.rules.proofs.SheetLaws.{thread-length, each-written}
 use borrow.Author.Rules.{rules}
 use Rattle.turns_sheet.proofs.put_threads.Goals as goal
 

@@ -3,7 +3,7 @@ use mathlib.Core.Path.{ap}
 use Prim.Native.Nat.{ℕ, ◌+◌, ◌*◌}
 use native.Mathlib.Omega.{arith}
 use Rattle.rules.specs.Sheet.{sheet_length}
-use Rattle.rules.specs.SheetLaws.{first_small}
+use Rattle.rules.proofs.SheetLaws.{first_small}
 use borrow.Author.Rules.{rules}
 use Rattle.turns_sheet.proofs.sheet_length.Goals as goal
 

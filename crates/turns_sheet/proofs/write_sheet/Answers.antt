@@ -1,5 +1,5 @@
 -- `write_sheet` meets its contract: the objects stand where the threads end.
-use Rattle.rules.specs.SheetLaws.{sheet_written}
+use Rattle.rules.proofs.SheetLaws.{sheet_written}
 use borrow.Author.Rules.{rules}
 use Rattle.turns_sheet.proofs.write_sheet.Goals as goal
 

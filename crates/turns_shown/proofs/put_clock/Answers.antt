@@ -6,7 +6,7 @@ use lib.ListN.{length}
 use lib.Seq.{sets, length-sets}
 use Rattle.clocks.specs.Clock.{max_threads}
 use Rattle.rules.specs.Sheet.{filled}
-use Rattle.rules.specs.SheetLaws.{filled-written}
+use Rattle.rules.proofs.SheetLaws.{filled-written}
 use borrow.Author.Rules.{rules}
 use Rattle.turns_shown.proofs.put_clock.Goals as goal
 

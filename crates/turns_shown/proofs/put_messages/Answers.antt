@@ -10,7 +10,7 @@ use Rattle.clocks.specs.Lists.{get_or-within}
 use Rattle.clocks.specs.declared.clock.Clock.{Clock}
 use Rattle.rules.specs.Limits.{max_messages}
 use Rattle.rules.specs.Sheet.{clock_bytes, each, filled}
-use Rattle.rules.specs.SheetLaws.{clock-length, each-written}
+use Rattle.rules.proofs.SheetLaws.{clock-length, each-written}
 use borrow.Author.Rules.{rules}
 use Rattle.turns_shown.proofs.put_messages.Goals as goal
 

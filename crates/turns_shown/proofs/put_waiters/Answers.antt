@@ -8,7 +8,7 @@ use lib.Seq.{sets, length-sets}
 use Rattle.clocks.specs.declared.thread.ThreadId.{ThreadId}
 use Rattle.rules.specs.Limits.{max_waiters}
 use Rattle.rules.specs.Sheet.{filled, number}
-use Rattle.rules.specs.SheetLaws.{filled-written, waiter_at}
+use Rattle.rules.proofs.SheetLaws.{filled-written, waiter_at}
 use borrow.Author.Rules.{rules}
 use Rattle.turns_shown.proofs.put_waiters.Goals as goal
 

@@ -3,7 +3,7 @@ use mathlib.Core.Path.{◌≡◌, refl, sym, ◌∙◌}
 use Prim.Native.Nat.{◌-◌}
 use borrow.Author.Rules.{rules}
 use Rattle.lists.specs.Greedy.{seek}
-use Rattle.lists.specs.Code.{seek_end, seek_hit, seek_miss}
+use Rattle.lists.proofs.CodeLaws.{seek_end, seek_hit, seek_miss}
 use Rattle.rules.specs.Turn.{is_allowed}
 use Rattle.rules.specs.Walk.{decisions}
 use Rattle.turns_steps.proofs.least.Goals as goal

@@ -14,7 +14,7 @@ use Rattle.rules.specs.declared.table.Parsed.TheVariants.{Whole, Bad}
 use Rattle.rules.specs.declared.table.Record.TheVariants as rec
 use Rattle.rules.specs.declared.table.Table.{Table}
 use Rattle.rules.specs.Table.{accepted, refused, body_length, one_record, object_record, thread_record, operation_record, with_object, with_thread, with_op, read_of, read_table, empty_table}
-use Rattle.rules.specs.TableLaws.{Reading, reading-start, reading_end, reading-stops, reading-goes, body_small}
+use Rattle.rules.proofs.TableLaws.{Reading, reading-start, reading_end, reading-stops, reading-goes, body_small}
 use borrow.Author.Rules.{rules}
 use Rattle.turns_table.proofs.read_table.Given as goal
 

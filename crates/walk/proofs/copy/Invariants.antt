@@ -5,7 +5,7 @@ use Prim.Native.Nat.{ℕ, ◌≤◌, ◌<◌, ◌-◌}
 use native.Mathlib.Omega.{arith}
 use lib.ListN.{length, take, drop, get_or, set, length-set}
 use borrow.Author.Rules.{rules}
-use Rattle.lists.specs.Code.{copied_more}
+use Rattle.lists.proofs.CodeLaws.{copied_more}
 use Rattle.walk.proofs.copy.Given as goal
 
 abbrev pub invariant-loop-i : goal.invariant-loop-i

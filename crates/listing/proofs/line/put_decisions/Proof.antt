@@ -6,7 +6,7 @@ use native.Mathlib.Omega.{arith}
 use lib.ListN.{length}
 use lib.Seq.{sets, length-sets}
 use Rattle.rules.specs.Sheet.{filled, each}
-use Rattle.rules.specs.SheetLaws.{each-written}
+use Rattle.rules.proofs.SheetLaws.{each-written}
 use Rattle.listing.specs.Line.{decision_bytes, all_filled}
 use borrow.Author.Rules.{rules}
 use Rattle.listing.proofs.line.put_decisions.Statement.{statement}

@@ -2,7 +2,7 @@
 use Rattle.std.proofs.Common.{◌≡◌, ℕ, ◌-◌, List, length, sym, ◌∙◌, arith, rules}
 use borrow.Author.Tests.{lt-ltb, le-ltb}
 use Rattle.clocks.specs.Clock.{max_threads, aheads, ahead_of}
-use Rattle.clocks.specs.Laws.{aheads-length, aheads_at, down_start, down_fits, low_fits, down_yes, down_no, down_nobody, down_found}
+use Rattle.clocks.proofs.Laws.{aheads-length, aheads_at, down_start, down_fits, low_fits, down_yes, down_no, down_nobody, down_found}
 use Rattle.clocks.proofs.clock.Clock.ahead.Goals as goal
 
 pub loop-i-init : goal.loop-i-init

@@ -1,7 +1,7 @@
 -- What is found from place i on is the mask and the lowest of those places.
 use Rattle.std.proofs.Common.{◌≡◌, length}
 use Rattle.clocks.specs.Clock.{max_threads, aheads}
-use Rattle.clocks.specs.Laws.{Down}
+use Rattle.clocks.proofs.Laws.{Down}
 use Rattle.clocks.proofs.clock.Clock.ahead.Given as goal
 
 abbrev pub invariant-loop-i : goal.invariant-loop-i

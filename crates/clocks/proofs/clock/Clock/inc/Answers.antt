@@ -1,8 +1,8 @@
 -- A place that is not there changes nothing, and any other holds one more.
-use Rattle.std.proofs.Common.{◌≡◌, ℕ, List, length, set, sym, ap, arith}
+use Rattle.std.proofs.Common.{ℕ, List, set, sym, ap, arith}
 use Rattle.clocks.specs.declared.clock.Clock.{Clock}
-use Rattle.clocks.specs.Clock.{max_threads, inc_of}
-use Rattle.clocks.specs.Laws.{raised-past}
+use Rattle.clocks.specs.Clock.{inc_of}
+use Rattle.clocks.proofs.Laws.{raised-past}
 use Rattle.clocks.proofs.clock.Clock.inc.Goals as goal
 
 abbrev clock : List ℕ → Clock

@@ -1,0 +1,12 @@
+pub mod Promised
+pub mod Examples
+pub mod Vectors
+pub mod RwLockLaws
+pub mod TableLaws
+pub mod SheetLaws
+pub mod Demand
+pub mod TurnLaws
+pub mod JudgeLaws
+pub mod AfterLaws
+pub mod TouchLaws
+pub mod NoteLaws
