@@ -15,18 +15,18 @@ use borrow.Author.Tests.{ltb-true, ltb-false}
 use borrow.Author.Rules.{rules}
 use Rattle.objects_condvar.proofs.unpark_each.Goals as goal
 
-abbrev all-unparked : ThreadId → List ThreadId → List Thread → List Thread
-all-unparked active ws ts = touched active (map unparks ws) ts
+abbrev all_unparked : ThreadId → List ThreadId → List Thread → List Thread
+all_unparked active ws ts = touched active (map unparks ws) ts
 
 -- a turn: the first of what is left is unparked
-turn : (active : ThreadId) (ws : List ThreadId) (n k : ℕ) (d : ThreadId) (ts us : List Thread) → k < n → k < length ws → us ≡ unpark_thread active (get_or ws k d) ts → all-unparked active (take (n - (k + 1)) (drop (k + 1) ws)) us ≡ all-unparked active (take (n - k) (drop k ws)) ts
+turn : (active : ThreadId) (ws : List ThreadId) (n k : ℕ) (d : ThreadId) (ts us : List Thread) → k < n → k < length ws → us ≡ unpark_thread active (get_or ws k d) ts → all_unparked active (take (n - (k + 1)) (drop (k + 1) ws)) us ≡ all_unparked active (take (n - k) (drop k ws)) ts
 turn active ws n k d ts us h l e =
     let m : n - k ≡ suc (n - (k + 1)) = omega arith in
     let s : drop k ws ≡ get_or ws k d ∷ drop (k + 1) ws = drop-cons ws k d l ∙ rw add-one in
     rw (e, m, s)
 
 pub loop-k-init : goal.loop-k-init
-loop-k-init c = let a = c.args in (search rules, ap (λ (n : ℕ). all-unparked a.active (take n a.waiters) a.threads) (sub-zero a.count))
+loop-k-init c = let a = c.args in (search rules, ap (λ (n : ℕ). all_unparked a.active (take n a.waiters) a.threads) (sub-zero a.count))
 
 pub loop-k-smaller : goal.loop-k-smaller
 loop-k-smaller c = omega (arith)
@@ -48,11 +48,11 @@ returns-else-k-lt-WAITERS c =
     let n : length ws ≡ max_waiters = search rules in
     let past : max_waiters ≤ l.k = c.if-k-lt-WAITERS.false in
     let all : drop l.k ws ≡ [] = drop_of_length-le ws {i = l.k} (omega arith) in
-    sym (ap (λ (vs : List ThreadId). all-unparked a.active vs l.out) (ap (take (a.count - l.k)) all ∙ take-nil (a.count - l.k))) ∙ l.invariant.1
+    sym (ap (λ (vs : List ThreadId). all_unparked a.active vs l.out) (ap (take (a.count - l.k)) all ∙ take-nil (a.count - l.k))) ∙ l.invariant.1
 
 pub returns-after-loop-k : goal.returns-after-loop-k
 returns-after-loop-k c =
     let l = c.loop-k in
     let a = c.args in
     let none : a.count - l.k ≡ 0 = omega arith in
-    sym (ap (λ (m : ℕ). all-unparked a.active (take m (drop l.k a.waiters)) l.out) none) ∙ l.invariant.1
+    sym (ap (λ (m : ℕ). all_unparked a.active (take m (drop l.k a.waiters)) l.out) none) ∙ l.invariant.1

@@ -15,11 +15,11 @@ use borrow.Author.Tests.{ltb-true, ltb-false}
 use borrow.Author.Rules.{rules}
 use Rattle.objects_condvar.proofs.unpark_each.Given as goal
 
-abbrev all-unparked : ThreadId → List ThreadId → List Thread → List Thread
-all-unparked active ws ts = touched active (map unparks ws) ts
+abbrev all_unparked : ThreadId → List ThreadId → List Thread → List Thread
+all_unparked active ws ts = touched active (map unparks ws) ts
 
 abbrev pub invariant-loop-k : goal.invariant-loop-k
-invariant-loop-k l = (l.k ≤ max_waiters) × (all-unparked l.active (take (l.n - l.k) (drop l.k l.waiters)) l.out ≡ all-unparked l.active (take l.n l.waiters) l.initial.out)
+invariant-loop-k l = (l.k ≤ max_waiters) × (all_unparked l.active (take (l.n - l.k) (drop l.k l.waiters)) l.out ≡ all_unparked l.active (take l.n l.waiters) l.initial.out)
 
 abbrev pub decreases-loop-k : goal.decreases-loop-k
 decreases-loop-k l = max_waiters - l.k

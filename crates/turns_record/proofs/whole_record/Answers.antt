@@ -18,8 +18,8 @@ returns-then-is_object c =
 pub returns-then-k-eq32 : goal.returns-then-k-eq32
 unfolding whole_record
 returns-then-k-eq32 c =
-    let no-object = sym c.is_object.ensures ∙ c.if-is_object.false in
-    rw (whole_record, no-object, eq-eqb _ _ c.if-k-eq32.true)
+    let no_object = sym c.is_object.ensures ∙ c.if-is_object.false in
+    rw (whole_record, no_object, eq-eqb _ _ c.if-k-eq32.true)
 
 pub overflow_sub-k-then-is_operation : goal.overflow_sub-k-then-is_operation
 overflow_sub-k-then-is_operation c = operation_low _ (sym c.is_operation.ensures ∙ c.if-is_operation.true)
@@ -27,13 +27,13 @@ overflow_sub-k-then-is_operation c = operation_low _ (sym c.is_operation.ensures
 pub returns-then-is_operation : goal.returns-then-is_operation
 unfolding whole_record
 returns-then-is_operation c =
-    let no-object = sym c.is_object.ensures ∙ c.if-is_object.false in
+    let no_object = sym c.is_object.ensures ∙ c.if-is_object.false in
     let yes = sym c.is_operation.ensures ∙ c.if-is_operation.true in
-    c.operation_of.ensures ∙ rw (whole_record, no-object, ne_eqb _ _ c.if-k-eq32.false, yes)
+    c.operation_of.ensures ∙ rw (whole_record, no_object, ne_eqb _ _ c.if-k-eq32.false, yes)
 
 pub returns : goal.returns
 unfolding whole_record
 returns c =
-    let no-object = sym c.is_object.ensures ∙ c.if-is_object.false in
+    let no_object = sym c.is_object.ensures ∙ c.if-is_object.false in
     let none = sym c.is_operation.ensures ∙ c.if-is_operation.false in
-    rw (whole_record, no-object, ne_eqb _ _ c.if-k-eq32.false, none)
+    rw (whole_record, no_object, ne_eqb _ _ c.if-k-eq32.false, none)

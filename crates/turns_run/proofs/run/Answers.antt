@@ -170,32 +170,32 @@ module _ (c : After-is_quiet) where
   abbrev place : ℕ
   place = c.place_of-k.result
 
-  is-place : place ≡ place_of (table here).counts (ts here) m
-  is-place = c.place_of-k.ensures ∙ ap (λ (y : Thread). place_in (table here).counts y.position m) seen ∙ sym (place_in_lem (table here).counts (ts here) m)
+  is_place : place ≡ place_of (table here).counts (ts here) m
+  is_place = c.place_of-k.ensures ∙ ap (λ (y : Thread). place_in (table here).counts y.position m) seen ∙ sym (place_in_lem (table here).counts (ts here) m)
 
   abbrev about : Found (table here) (ts here) m
   about =
       record {
         left = ltb place op_places;
-        is_left = ap (λ (j : ℕ). ltb j op_places) is-place;
+        is_left = ap (λ (j : ℕ). ltb j op_places) is_place;
         op = c.if-k-lt-PLACES.op;
         is_op =
             elim c.if-k-lt-PLACES.branch [
-              | then-k-lt-PLACES w ↦ w.op-is ∙ op_there (table here) (ts here) m place is-place (placed here).all _ w.if-k-lt-PLACES.true
-              | else-k-lt-PLACES w ↦ w.op-is ∙ w.no_op-op.ensures ∙ op-none (table here) (ts here) m place is-place (placed here).all w.if-k-lt-PLACES.false
+              | then-k-lt-PLACES w ↦ w.op-is ∙ op_there (table here) (ts here) m place is_place (placed here).all _ w.if-k-lt-PLACES.true
+              | else-k-lt-PLACES w ↦ w.op-is ∙ w.no_op-op.ensures ∙ op-none (table here) (ts here) m place is_place (placed here).all w.if-k-lt-PLACES.false
             ];
         object = c.subject-o.result;
         is_object_lem = c.subject-o.ensures ∙ ap (λ (y : Thread). subject_in y.phase m c.if-k-lt-PLACES.op) seen ∙ sym (subject_in_lem (ts here) m c.if-k-lt-PLACES.op);
       }
 
-  abbrev sceneWith : Entry → Scene
-  sceneWith e = record { entry = e; threads = ts here; turn = here.loop-acting.turn; asked = here.loop-acting.asked }
+  abbrev scene_with : Entry → Scene
+  scene_with e = record { entry = e; threads = ts here; turn = here.loop-acting.turn; asked = here.loop-acting.asked }
 
   told : is_quiet (thread_at (ts here) (who m)).phase m about.left about.op.call ≡ c.is_quiet.result
   told = ap (λ (y : Thread). is_quiet y.phase m about.left about.op.call) (sym seen) ∙ sym c.is_quiet.ensures
 
   -- what an act leaves of the run, and that fewer may follow
-  module _ (e : Entry) (out : e ≡ entry_at (es here) about.object) (x : Moved) (done : x ≡ act m about.left about.op (sceneWith e)) where
+  module _ (e : Entry) (out : e ≡ entry_at (es here) about.object) (x : Moved) (done : x ≡ act m about.left about.op (scene_with e)) where
     less : weight x.acting < weight here.loop-acting.acting
     less = acted_less (runs here) m c.in-Moves.is (placed here) about e out x done
 
@@ -225,17 +225,17 @@ module _ (c : After-y-1) where
   abbrev q : Quiet
   q = c.quietly-q.result
 
-  stays : stayed (sceneWith calm e) (t calm) q ≡ act (m calm) (about calm).left (about calm).op (sceneWith calm e)
+  stays : stayed (scene_with calm e) (t calm) q ≡ act (m calm) (about calm).left (about calm).op (scene_with calm e)
   stays =
-      let s : Scene = sceneWith calm e in
+      let s : Scene = scene_with calm e in
       let op : Op = (about calm).op in
       let barred = c.is_barred-barred.ensures ∙ ap (λ (y : Bool). is_barred y op.call e) c.is_begun.ensures in
       let made : q ≡ quietly (m calm) (about calm).left op (is_barred (is_begun (m calm)) op.call e) (asks op.call e) (thread_at s.threads (who (m calm))) s.turn s.asked =
       c.quietly-q.ensures ∙ (λ i. quietly (m calm) (about calm).left op (barred i) (c.asks.ensures i) (seen calm i) s.turn s.asked) in
       ap (λ (u : ThreadId). stayed s u q) c.who-t.ensures ∙ ap (stayed s (who (m calm))) made ∙ sym (quiet_law op s (m calm) (about calm).left (told calm ∙ c.if-is_quiet.true))
 
-  quiet-less : weight q.acting < weight (here calm).loop-acting.acting
-  quiet-less = less calm e out _ stays
+  quiet_less : weight q.acting < weight (here calm).loop-acting.acting
+  quiet_less = less calm e out _ stays
 
   quiet_next : Running (table (here calm)) (list (here calm)) (given (here calm)) (put_thread (ts (here calm)) (t calm) q.thread) (es (here calm)) q.turn q.asked q.acting (here calm).loop-acting.at
   quiet_next = same calm e out _ stays refl
@@ -253,29 +253,29 @@ module _ (c : After-wakes_spuriously) where
   abbrev it : Entry
   it = entry_at (es (here loud)) (about loud).object
 
-  is-loud : is_quiet (thread_at (ts (here loud)) (who (m loud))).phase (m loud) (about loud).left (about loud).op.call ≡ false
-  is-loud = told loud ∙ c.if-is_quiet.false
+  is_loud : is_quiet (thread_at (ts (here loud)) (who (m loud))).phase (m loud) (about loud).left (about loud).op.call ≡ false
+  is_loud = told loud ∙ c.if-is_quiet.false
 
   abbrev work' : Op
   work' = c.op_in-work.result
 
-  abbrev by-rule : Op
-  by-rule = work (about loud).op (sceneWith loud it) (m loud)
+  abbrev by_rule : Op
+  by_rule = work (about loud).op (scene_with loud it) (m loud)
 
-  is-work : work' ≡ by-rule
-  is-work = c.op_in-work.ensures ∙ ap (λ (y : Thread). op_in y.phase (m loud) (about loud).op) (seen loud)
+  is_work : work' ≡ by_rule
+  is_work = c.op_in-work.ensures ∙ ap (λ (y : Thread). op_in y.phase (m loud) (about loud).op) (seen loud)
 
-  is-who : t loud ≡ who (m loud)
-  is-who = c.who-t.ensures
+  is_who : t loud ≡ who (m loud)
+  is_who = c.who-t.ensures
 
   abbrev done : Effect
-  done = done_by (about loud).op (sceneWith loud it) (m loud) by-rule
+  done = done_by (about loud).op (scene_with loud it) (m loud) by_rule
 
   abbrev done' : Effect
   done' = takes_effect (m loud) work'.call (t loud) work'.object it (ts (here loud))
 
-  is-done : done' ≡ done
-  is-done = λ i. takes_effect (m loud) (is-work i).call (is-who i) (is-work i).object it (ts (here loud))
+  is_done : done' ≡ done
+  is_done = λ i. takes_effect (m loud) (is_work i).call (is_who i) (is_work i).object it (ts (here loud))
 
   -- the object as it is read and put back
   there : (d : Entry) → (about loud).object.0 < max_objects → get_or (es (here loud)) (about loud).object.0 d ≡ it
@@ -289,46 +289,46 @@ module _ (c : After-wakes_spuriously) where
 
   -- what is left of the run, by what the arm did
   module _ (r : Effect) (is : done' ≡ r) (a : Acting) (comes : a ≡ outcome r.ending (m loud) work' r.answer c.if-i-lt-THREADS-2.x.position) where
-    is-r : done ≡ r
-    is-r = sym is-done ∙ is
+    is_r : done ≡ r
+    is_r = sym is_done ∙ is
 
-    is_next : a ≡ outcome done.ending (m loud) by-rule done.answer (thread_at (ts (here loud)) (who (m loud))).position
-    is_next = comes ∙ (λ i. outcome (sym is-r i).ending (m loud) (is-work i) (sym is-r i).answer (seen loud i).position)
+    is_next : a ≡ outcome done.ending (m loud) by_rule done.answer (thread_at (ts (here loud)) (who (m loud))).position
+    is_next = comes ∙ (λ i. outcome (sym is_r i).ending (m loud) (is_work i) (sym is_r i).answer (seen loud i).position)
 
-    arm-less : weight a < weight (here loud).loop-acting.acting
-    arm-less =
-        let h = done_less (runs (here loud)) (m loud) (moves loud) (placed (here loud)) (about loud) is-loud done.ending done.answer in
-        let p : weight a ≡ weight (outcome done.ending (m loud) by-rule done.answer (thread_at (ts (here loud)) (who (m loud))).position) = ap weight is_next in
+    arm_less : weight a < weight (here loud).loop-acting.acting
+    arm_less =
+        let h = done_less (runs (here loud)) (m loud) (moves loud) (placed (here loud)) (about loud) is_loud done.ending done.answer in
+        let p : weight a ≡ weight (outcome done.ending (m loud) by_rule done.answer (thread_at (ts (here loud)) (who (m loud))).position) = ap weight is_next in
         omega (arith, h, p)
 
-    arm-kept : is_fine r.ending ≡ true → (fs : List Entry) → fs ≡ put_entry (es (here loud)) (about loud).object r.entry
+    arm_kept : is_fine r.ending ≡ true → (fs : List Entry) → fs ≡ put_entry (es (here loud)) (about loud).object r.entry
         → Running (table (here loud)) (list (here loud)) (given (here loud)) r.threads fs (here loud).loop-acting.turn (here loud).loop-acting.asked a (here loud).loop-acting.at
-    arm-kept h fs p =
-        let run = done-fine (runs (here loud)) (m loud) (moves loud) (placed (here loud)) (about loud) is-loud (ap (λ (y : Effect). is_fine y.ending) is-r ∙ h) in
-        let put = ap (λ (y : Effect). put_entry (es (here loud)) (about loud).object y.entry) is-r ∙ sym p in
+    arm_kept h fs p =
+        let run = done-fine (runs (here loud)) (m loud) (moves loud) (placed (here loud)) (about loud) is_loud (ap (λ (y : Effect). is_fine y.ending) is_r ∙ h) in
+        let put = ap (λ (y : Effect). put_entry (es (here loud)) (about loud).object y.entry) is_r ∙ sym p in
         let next' = sym is_next in
         record {
-          judged = run.judged ∙ (λ i. rest (table (here loud)) (list (here loud)) (here loud).loop-acting.at (next' i) (record { threads = (is-r i).threads; objects = put i; turn = (here loud).loop-acting.turn; asked = (here loud).loop-acting.asked }));
+          judged = run.judged ∙ (λ i. rest (table (here loud)) (list (here loud)) (here loud).loop-acting.at (next' i) (record { threads = (is_r i).threads; objects = put i; turn = (here loud).loop-acting.turn; asked = (here loud).loop-acting.asked }));
           all = ap (λ (gs : List Entry). length gs) p ∙ length-set (es (here loud)) (about loud).object.0 r.entry ∙ (runs (here loud)).all;
         }
 
-    arm-left : is_fine r.ending ≡ false
+    arm_left : is_fine r.ending ≡ false
         → Running (table (here loud)) (list (here loud)) (given (here loud)) (ts (here loud)) (es (here loud)) (here loud).loop-acting.turn (here loud).loop-acting.asked a (here loud).loop-acting.at
-    arm-left h =
+    arm_left h =
         subst (λ (b : Acting). Running (table (here loud)) (list (here loud)) (given (here loud)) (ts (here loud)) (es (here loud)) (here loud).loop-acting.turn (here loud).loop-acting.asked b (here loud).loop-acting.at) (sym is_next)
-        (done-fails (runs (here loud)) (m loud) (moves loud) (placed (here loud)) (about loud) is-loud (ap (λ (y : Effect). is_fine y.ending) is-r ∙ h))
+        (done-fails (runs (here loud)) (m loud) (moves loud) (placed (here loud)) (about loud) is_loud (ap (λ (y : Effect). is_fine y.ending) is_r ∙ h))
 
   module _ (r : Effect) (is : done' ≡ r) (fine : r.ending ≡ ending.Fine) where
     goes_on : InEffect (m loud) work' r.answer ≡ outcome r.ending (m loud) work' r.answer c.if-i-lt-THREADS-2.x.position
     unfolding outcome verdict_or
     goes_on = sym (ap (λ (y : Ending). outcome y (m loud) work' r.answer c.if-i-lt-THREADS-2.x.position) fine)
 
-    fine-less : weight (InEffect (m loud) work' r.answer) < weight (here loud).loop-acting.acting
-    fine-less = arm-less r is _ goes_on
+    fine_less : weight (InEffect (m loud) work' r.answer) < weight (here loud).loop-acting.acting
+    fine_less = arm_less r is _ goes_on
 
-    fine-kept : (fs : List Entry) → fs ≡ put_entry (es (here loud)) (about loud).object r.entry
+    fine_kept : (fs : List Entry) → fs ≡ put_entry (es (here loud)) (about loud).object r.entry
         → Running (table (here loud)) (list (here loud)) (given (here loud)) r.threads fs (here loud).loop-acting.turn (here loud).loop-acting.asked (InEffect (m loud) work' r.answer) (here loud).loop-acting.at
-    fine-kept = arm-kept r is _ goes_on (ap is_fine fine)
+    fine_kept = arm_kept r is _ goes_on (ap is_fine fine)
 
 -- an ending of the other arm is a failing one
 fails : (x : Ending) → (x ≡ ending.Fine → ⊥) → is_fine x ≡ false
@@ -339,134 +339,134 @@ fails (ending.Race t) h = refl
 
 -- an operation on a mutex
 module _ (c : After-effect-r) where
-  abbrev mutex-at : After-wakes_spuriously
-  mutex-at = c.before.before.before.before.before
+  abbrev mutex_at : After-wakes_spuriously
+  mutex_at = c.before.before.before.before.before
 
-  abbrev mutex-done : Effect
-  mutex-done = in_mutex c.effect-r.result (it mutex-at)
+  abbrev mutex_done : Effect
+  mutex_done = in_mutex c.effect-r.result (it mutex_at)
 
-  mutex_is : done' mutex-at ≡ mutex-done
+  mutex_is : done' mutex_at ≡ mutex_done
   mutex_is =
-      let same : c.if-o-lt-OBJECTS-3.e ≡ it mutex-at =
+      let same : c.if-o-lt-OBJECTS-3.e ≡ it mutex_at =
       elim c.if-o-lt-OBJECTS-3.branch [
-        | then-o-lt-OBJECTS-3 w ↦ w.e-is ∙ there mutex-at _ w.if-o-lt-OBJECTS-3.true
-        | else-o-lt-OBJECTS-3 w ↦ w.e-is ∙ mutex-at.absent-e-else-is_quiet.ensures ∙ nowhere mutex-at w.if-o-lt-OBJECTS-3.false
+        | then-o-lt-OBJECTS-3 w ↦ w.e-is ∙ there mutex_at _ w.if-o-lt-OBJECTS-3.true
+        | else-o-lt-OBJECTS-3 w ↦ w.e-is ∙ mutex_at.absent-e-else-is_quiet.ensures ∙ nowhere mutex_at w.if-o-lt-OBJECTS-3.false
       ] in
-      takes_mutex (m (loud mutex-at)) (t (loud mutex-at)) (work' mutex-at).object (ts (here (loud mutex-at))) (sym mutex-at.wakes_spuriously.ensures ∙ c.if-wakes_spuriously.false) same c.in-Mutex.is c.effect-r.ensures
+      takes_mutex (m (loud mutex_at)) (t (loud mutex_at)) (work' mutex_at).object (ts (here (loud mutex_at))) (sym mutex_at.wakes_spuriously.ensures ∙ c.if-wakes_spuriously.false) same c.in-Mutex.is c.effect-r.ensures
 
-  mutex-full : length c.effect-r.result.threads ≡ max_threads
-  mutex-full = c.effect-r.type_inv.1.1.1.1.1.0.1.0.1
+  mutex_full : length c.effect-r.result.threads ≡ max_threads
+  mutex_full = c.effect-r.type_inv.1.1.1.1.1.0.1.0.1
 
 -- an operation on a rwlock
 module _ (c : After-effect-r-in-RwLock) where
-  abbrev rwlock-at : After-wakes_spuriously
-  rwlock-at = c.before.before.before.before.before
+  abbrev rwlock_at : After-wakes_spuriously
+  rwlock_at = c.before.before.before.before.before
 
-  abbrev rwlock-done : Effect
-  rwlock-done = in_rw_lock c.effect-r-in-RwLock.result (it rwlock-at)
+  abbrev rwlock_done : Effect
+  rwlock_done = in_rw_lock c.effect-r-in-RwLock.result (it rwlock_at)
 
-  rwlock-is : done' rwlock-at ≡ rwlock-done
-  rwlock-is =
-      let same : c.if-o-lt-OBJECTS-5.e ≡ it rwlock-at =
+  rwlock_is : done' rwlock_at ≡ rwlock_done
+  rwlock_is =
+      let same : c.if-o-lt-OBJECTS-5.e ≡ it rwlock_at =
       elim c.if-o-lt-OBJECTS-5.branch [
-        | then-o-lt-OBJECTS-5 w ↦ w.e-is ∙ there rwlock-at _ w.if-o-lt-OBJECTS-5.true
-        | else-o-lt-OBJECTS-5 w ↦ w.e-is ∙ rwlock-at.absent-e-else-is_quiet.ensures ∙ nowhere rwlock-at w.if-o-lt-OBJECTS-5.false
+        | then-o-lt-OBJECTS-5 w ↦ w.e-is ∙ there rwlock_at _ w.if-o-lt-OBJECTS-5.true
+        | else-o-lt-OBJECTS-5 w ↦ w.e-is ∙ rwlock_at.absent-e-else-is_quiet.ensures ∙ nowhere rwlock_at w.if-o-lt-OBJECTS-5.false
       ] in
-      takes_rwlock (m (loud rwlock-at)) (t (loud rwlock-at)) (work' rwlock-at).object (ts (here (loud rwlock-at))) (sym rwlock-at.wakes_spuriously.ensures ∙ c.if-wakes_spuriously.false) same c.in-RwLock.is c.effect-r-in-RwLock.ensures
+      takes_rwlock (m (loud rwlock_at)) (t (loud rwlock_at)) (work' rwlock_at).object (ts (here (loud rwlock_at))) (sym rwlock_at.wakes_spuriously.ensures ∙ c.if-wakes_spuriously.false) same c.in-RwLock.is c.effect-r-in-RwLock.ensures
 
-  rwlock-full : length c.effect-r-in-RwLock.result.threads ≡ max_threads
-  rwlock-full = c.effect-r-in-RwLock.type_inv.1.1.1.1.1.0.1.0.1
+  rwlock_full : length c.effect-r-in-RwLock.result.threads ≡ max_threads
+  rwlock_full = c.effect-r-in-RwLock.type_inv.1.1.1.1.1.0.1.0.1
 
 -- an operation on a condvar
 module _ (c : After-effect-r-in-Condvar) where
-  abbrev condvar-at : After-wakes_spuriously
-  condvar-at = c.before.before.before.before.before
+  abbrev condvar_at : After-wakes_spuriously
+  condvar_at = c.before.before.before.before.before
 
-  abbrev condvar-done : Effect
-  condvar-done = in_condvar c.effect-r-in-Condvar.result (it condvar-at)
+  abbrev condvar_done : Effect
+  condvar_done = in_condvar c.effect-r-in-Condvar.result (it condvar_at)
 
-  condvar-is : done' condvar-at ≡ condvar-done
-  condvar-is =
-      let same : c.if-o-lt-OBJECTS-7.e ≡ it condvar-at =
+  condvar_is : done' condvar_at ≡ condvar_done
+  condvar_is =
+      let same : c.if-o-lt-OBJECTS-7.e ≡ it condvar_at =
       elim c.if-o-lt-OBJECTS-7.branch [
-        | then-o-lt-OBJECTS-7 w ↦ w.e-is ∙ there condvar-at _ w.if-o-lt-OBJECTS-7.true
-        | else-o-lt-OBJECTS-7 w ↦ w.e-is ∙ condvar-at.absent-e-else-is_quiet.ensures ∙ nowhere condvar-at w.if-o-lt-OBJECTS-7.false
+        | then-o-lt-OBJECTS-7 w ↦ w.e-is ∙ there condvar_at _ w.if-o-lt-OBJECTS-7.true
+        | else-o-lt-OBJECTS-7 w ↦ w.e-is ∙ condvar_at.absent-e-else-is_quiet.ensures ∙ nowhere condvar_at w.if-o-lt-OBJECTS-7.false
       ] in
-      takes_condvar (m (loud condvar-at)) (t (loud condvar-at)) (work' condvar-at).object (ts (here (loud condvar-at))) (sym condvar-at.wakes_spuriously.ensures ∙ c.if-wakes_spuriously.false) same c.in-Condvar.is c.effect-r-in-Condvar.ensures
+      takes_condvar (m (loud condvar_at)) (t (loud condvar_at)) (work' condvar_at).object (ts (here (loud condvar_at))) (sym condvar_at.wakes_spuriously.ensures ∙ c.if-wakes_spuriously.false) same c.in-Condvar.is c.effect-r-in-Condvar.ensures
 
-  condvar-full : length c.effect-r-in-Condvar.result.threads ≡ max_threads
-  condvar-full = c.effect-r-in-Condvar.type_inv.1.1.1.1.1.0.1.0.1
+  condvar_full : length c.effect-r-in-Condvar.result.threads ≡ max_threads
+  condvar_full = c.effect-r-in-Condvar.type_inv.1.1.1.1.1.0.1.0.1
 
 -- an operation on a notify
 module _ (c : After-effect-r-in-Notify) where
-  abbrev notify-at : After-wakes_spuriously
-  notify-at = c.before.before.before.before.before
+  abbrev notify_at : After-wakes_spuriously
+  notify_at = c.before.before.before.before.before
 
-  abbrev notify-done : Effect
-  notify-done = in_notify c.effect-r-in-Notify.result (it notify-at)
+  abbrev notify_done : Effect
+  notify_done = in_notify c.effect-r-in-Notify.result (it notify_at)
 
-  notify-is : done' notify-at ≡ notify-done
-  notify-is =
-      let same : c.if-o-lt-OBJECTS-9.e ≡ it notify-at =
+  notify_is : done' notify_at ≡ notify_done
+  notify_is =
+      let same : c.if-o-lt-OBJECTS-9.e ≡ it notify_at =
       elim c.if-o-lt-OBJECTS-9.branch [
-        | then-o-lt-OBJECTS-9 w ↦ w.e-is ∙ there notify-at _ w.if-o-lt-OBJECTS-9.true
-        | else-o-lt-OBJECTS-9 w ↦ w.e-is ∙ notify-at.absent-e-else-is_quiet.ensures ∙ nowhere notify-at w.if-o-lt-OBJECTS-9.false
+        | then-o-lt-OBJECTS-9 w ↦ w.e-is ∙ there notify_at _ w.if-o-lt-OBJECTS-9.true
+        | else-o-lt-OBJECTS-9 w ↦ w.e-is ∙ notify_at.absent-e-else-is_quiet.ensures ∙ nowhere notify_at w.if-o-lt-OBJECTS-9.false
       ] in
-      takes_notify (m (loud notify-at)) (t (loud notify-at)) (work' notify-at).object (ts (here (loud notify-at))) (sym notify-at.wakes_spuriously.ensures ∙ c.if-wakes_spuriously.false) same c.in-Notify.is c.effect-r-in-Notify.ensures
+      takes_notify (m (loud notify_at)) (t (loud notify_at)) (work' notify_at).object (ts (here (loud notify_at))) (sym notify_at.wakes_spuriously.ensures ∙ c.if-wakes_spuriously.false) same c.in-Notify.is c.effect-r-in-Notify.ensures
 
-  notify-full : length c.effect-r-in-Notify.result.threads ≡ max_threads
-  notify-full = c.effect-r-in-Notify.type_inv.1.1.1.1.1.0.1.0.1
+  notify_full : length c.effect-r-in-Notify.result.threads ≡ max_threads
+  notify_full = c.effect-r-in-Notify.type_inv.1.1.1.1.1.0.1.0.1
 
 -- an operation on a channel
 module _ (c : After-effect-r-in-Channel) where
-  abbrev channel-at : After-wakes_spuriously
-  channel-at = c.before.before.before.before.before
+  abbrev channel_at : After-wakes_spuriously
+  channel_at = c.before.before.before.before.before
 
-  abbrev channel-done : Effect
-  channel-done = in_channel c.effect-r-in-Channel.result (it channel-at)
+  abbrev channel_done : Effect
+  channel_done = in_channel c.effect-r-in-Channel.result (it channel_at)
 
-  channel-is : done' channel-at ≡ channel-done
-  channel-is =
-      let same : c.if-o-lt-OBJECTS-11.e ≡ it channel-at =
+  channel_is : done' channel_at ≡ channel_done
+  channel_is =
+      let same : c.if-o-lt-OBJECTS-11.e ≡ it channel_at =
       elim c.if-o-lt-OBJECTS-11.branch [
-        | then-o-lt-OBJECTS-11 w ↦ w.e-is ∙ there channel-at _ w.if-o-lt-OBJECTS-11.true
-        | else-o-lt-OBJECTS-11 w ↦ w.e-is ∙ channel-at.absent-e-else-is_quiet.ensures ∙ nowhere channel-at w.if-o-lt-OBJECTS-11.false
+        | then-o-lt-OBJECTS-11 w ↦ w.e-is ∙ there channel_at _ w.if-o-lt-OBJECTS-11.true
+        | else-o-lt-OBJECTS-11 w ↦ w.e-is ∙ channel_at.absent-e-else-is_quiet.ensures ∙ nowhere channel_at w.if-o-lt-OBJECTS-11.false
       ] in
-      takes_channel (m (loud channel-at)) (t (loud channel-at)) (work' channel-at).object (ts (here (loud channel-at))) (sym channel-at.wakes_spuriously.ensures ∙ c.if-wakes_spuriously.false) same c.in-Channel.is c.effect-r-in-Channel.ensures
+      takes_channel (m (loud channel_at)) (t (loud channel_at)) (work' channel_at).object (ts (here (loud channel_at))) (sym channel_at.wakes_spuriously.ensures ∙ c.if-wakes_spuriously.false) same c.in-Channel.is c.effect-r-in-Channel.ensures
 
-  channel-full : length c.effect-r-in-Channel.result.threads ≡ max_threads
-  channel-full = c.effect-r-in-Channel.type_inv.1.1.1.1.1.0.1.0.1
+  channel_full : length c.effect-r-in-Channel.result.threads ≡ max_threads
+  channel_full = c.effect-r-in-Channel.type_inv.1.1.1.1.1.0.1.0.1
 
 -- an operation on an arc
 module _ (c : After-effect-r-in-Arc) where
-  abbrev arc-at : After-wakes_spuriously
-  arc-at = c.before.before.before.before.before
+  abbrev arc_at : After-wakes_spuriously
+  arc_at = c.before.before.before.before.before
 
-  abbrev arc-done : Effect
-  arc-done = in_arc c.effect-r-in-Arc.result (it arc-at)
+  abbrev arc_done : Effect
+  arc_done = in_arc c.effect-r-in-Arc.result (it arc_at)
 
-  arc-is : done' arc-at ≡ arc-done
-  arc-is =
-      let same : c.if-o-lt-OBJECTS-13.e ≡ it arc-at =
+  arc_is : done' arc_at ≡ arc_done
+  arc_is =
+      let same : c.if-o-lt-OBJECTS-13.e ≡ it arc_at =
       elim c.if-o-lt-OBJECTS-13.branch [
-        | then-o-lt-OBJECTS-13 w ↦ w.e-is ∙ there arc-at _ w.if-o-lt-OBJECTS-13.true
-        | else-o-lt-OBJECTS-13 w ↦ w.e-is ∙ arc-at.absent-e-else-is_quiet.ensures ∙ nowhere arc-at w.if-o-lt-OBJECTS-13.false
+        | then-o-lt-OBJECTS-13 w ↦ w.e-is ∙ there arc_at _ w.if-o-lt-OBJECTS-13.true
+        | else-o-lt-OBJECTS-13 w ↦ w.e-is ∙ arc_at.absent-e-else-is_quiet.ensures ∙ nowhere arc_at w.if-o-lt-OBJECTS-13.false
       ] in
-      takes_arc (m (loud arc-at)) (t (loud arc-at)) (work' arc-at).object (ts (here (loud arc-at))) (sym arc-at.wakes_spuriously.ensures ∙ c.if-wakes_spuriously.false) same c.in-Arc.is c.effect-r-in-Arc.ensures
+      takes_arc (m (loud arc_at)) (t (loud arc_at)) (work' arc_at).object (ts (here (loud arc_at))) (sym arc_at.wakes_spuriously.ensures ∙ c.if-wakes_spuriously.false) same c.in-Arc.is c.effect-r-in-Arc.ensures
 
-  arc-full : length c.effect-r-in-Arc.result.threads ≡ max_threads
-  arc-full = c.effect-r-in-Arc.type_inv.1.1.1.1.1.0.1.0.1
+  arc_full : length c.effect-r-in-Arc.result.threads ≡ max_threads
+  arc_full = c.effect-r-in-Arc.type_inv.1.1.1.1.1.0.1.0.1
 
 -- an operation on a cell
 module _ (c : After-effect-r-in-Cell) where
   abbrev cell_at : After-wakes_spuriously
   cell_at = c.before.before.before.before.before
 
-  abbrev cell-done : Effect
-  cell-done = in_cell c.effect-r-in-Cell.result (it cell_at)
+  abbrev cell_done : Effect
+  cell_done = in_cell c.effect-r-in-Cell.result (it cell_at)
 
-  cell-is : done' cell_at ≡ cell-done
-  cell-is =
+  cell_is : done' cell_at ≡ cell_done
+  cell_is =
       let same : c.if-o-lt-OBJECTS-15.e ≡ it cell_at =
       elim c.if-o-lt-OBJECTS-15.branch [
         | then-o-lt-OBJECTS-15 w ↦ w.e-is ∙ there cell_at _ w.if-o-lt-OBJECTS-15.true
@@ -482,18 +482,18 @@ module _ (c : After-wakes_spuriously) (woken : c.wakes_spuriously.result ≡ tru
   abbrev woke : Effect
   woke = spurred (it c) (ts (here (loud c)))
 
-  wakes-is : done' c ≡ woke
-  wakes-is = wakes_effect (m (loud c)) (work' c).call (t (loud c)) (work' c).object (it c) (ts (here (loud c))) (sym c.wakes_spuriously.ensures ∙ woken)
+  wakes_is : done' c ≡ woke
+  wakes_is = wakes_effect (m (loud c)) (work' c).call (t (loud c)) (work' c).object (it c) (ts (here (loud c))) (sym c.wakes_spuriously.ensures ∙ woken)
 
   abbrev wakes : Acting
   wakes = InEffect (m (loud c)) (work' c) Kept
 
-  wakes-less : weight wakes < weight (here (loud c)).loop-acting.acting
-  wakes-less = fine-less c woke wakes-is refl
+  wakes_less : weight wakes < weight (here (loud c)).loop-acting.acting
+  wakes_less = fine_less c woke wakes_is refl
 
-  wakes-kept : (fs : List Entry) → fs ≡ put_entry (es (here (loud c))) (about (loud c)).object woke.entry
+  wakes_kept : (fs : List Entry) → fs ≡ put_entry (es (here (loud c))) (about (loud c)).object woke.entry
       → Running (table (here (loud c))) (list (here (loud c))) (given (here (loud c))) (ts (here (loud c))) fs (here (loud c)).loop-acting.turn (here (loud c)).loop-acting.asked wakes (here (loud c)).loop-acting.at
-  wakes-kept = fine-kept c woke wakes-is refl
+  wakes_kept = fine_kept c woke wakes_is refl
 
 -- what follows an effect
 module _ (c : After-next_in-acting) where
@@ -512,8 +512,8 @@ module _ (c : After-next_in-acting) where
   in_effect_lem : at'.loop-acting.acting ≡ InEffect mv wk an
   in_effect_lem = c.in-InEffect.is
 
-  is-who' : c.who-t-in-InEffect.result ≡ who mv
-  is-who' = c.who-t-in-InEffect.ensures
+  is_who' : c.who-t-in-InEffect.result ≡ who mv
+  is_who' = c.who-t-in-InEffect.ensures
 
   seen' : c.if-i-lt-THREADS-4.x ≡ thread_at (ts at') (who mv)
   seen' =
@@ -523,7 +523,7 @@ module _ (c : After-next_in-acting) where
         | then-i-lt-THREADS-4 w ↦ w.x-is ∙ get_or-within (ts at') u.0 _ _ (omega (arith, w.if-i-lt-THREADS-4.true, six at'))
         | else-i-lt-THREADS-4 w ↦ w.x-is ∙ w.absent-x-else-i-lt-THREADS-4.ensures ∙ sym (get_or-eq_default (ts at') _ (omega (arith, w.if-i-lt-THREADS-4.false, six at')))
       ] in
-      found ∙ ap (thread_at (ts at')) is-who'
+      found ∙ ap (thread_at (ts at')) is_who'
 
   read' : c.if-o-lt-OBJECTS-17.e ≡ entry_at (es at') wk.object
   read' =
@@ -532,14 +532,14 @@ module _ (c : After-next_in-acting) where
         | else-o-lt-OBJECTS-17 w ↦ w.e-is ∙ c.absent-e-in-InEffect.ensures ∙ taken_none (es at') wk.object.0 (omega (arith, w.if-o-lt-OBJECTS-17.false, (runs at').all))
       ]
 
-  is-version : c.version-v.result ≡ version (runs at') mv wk an in_effect_lem
-  is-version = c.version-v.ensures ∙ (λ i. version_in mv wk.call (read' i) (seen' i))
+  is_version : c.version-v.result ≡ version (runs at') mv wk an in_effect_lem
+  is_version = c.version-v.ensures ∙ (λ i. version_in mv wk.call (read' i) (seen' i))
 
-  is-next' : c.next_in-acting.result ≡ next_in mv (wait_of wk.call) (thread_at (ts at') (who mv)).position
-  is-next' = c.next_in-acting.ensures ∙ (λ i. next_in mv (c.wait_of-wait.ensures i) (seen' i).position)
+  is_next' : c.next_in-acting.result ≡ next_in mv (wait_of wk.call) (thread_at (ts at') (who mv)).position
+  is_next' = c.next_in-acting.ensures ∙ (λ i. next_in mv (c.wait_of-wait.ensures i) (seen' i).position)
 
-  follow-less : weight c.next_in-acting.result < weight at'.loop-acting.acting
-  follow-less = let h = followed_less (runs at') mv wk an in_effect_lem (thread_at (ts at') (who mv)).position in let p = ap weight is-next' in omega (arith, h, p)
+  follow_less : weight c.next_in-acting.result < weight at'.loop-acting.acting
+  follow_less = let h = followed_less (runs at') mv wk an in_effect_lem (thread_at (ts at') (who mv)).position in let p = ap weight is_next' in omega (arith, h, p)
 
   abbrev access : Access
   access = record { path_id = c.turn_in-turn.result; version = c.version-v.result }
@@ -562,25 +562,25 @@ module _ (c : Joined-i-lt-THREADS-5) where
         | then-i-lt-THREADS-5 w ↦ w.threads-is ∙ ap (set us i) (w.after_effect.ensures ∙ ap by (seen' tl))
         | else-i-lt-THREADS-5 w ↦ w.threads-is ∙ sym (set_out us i _ (omega (arith, w.if-i-lt-THREADS-5.false, six (at' tl))))
       ] in
-      put ∙ (λ j. set us (is-who' tl j).0 (after_effect (mv tl) (tl.wait_of-wait.ensures j) (an tl) (is-version tl j) (thread_at us (who (mv tl)))))
+      put ∙ (λ j. set us (is_who' tl j).0 (after_effect (mv tl) (tl.wait_of-wait.ensures j) (an tl) (is_version tl j) (thread_at us (who (mv tl)))))
 
-  gone-full : length c.if-i-lt-THREADS-5.threads ≡ max_threads
-  gone-full = ap (λ (xs : List Thread). length xs) gone ∙ length-set (ts (at' tl)) (who (mv tl)).0 _ ∙ six (at' tl)
+  gone_full : length c.if-i-lt-THREADS-5.threads ≡ max_threads
+  gone_full = ap (λ (xs : List Thread). length xs) gone ∙ length-set (ts (at' tl)) (who (mv tl)).0 _ ∙ six (at' tl)
 
-  follow-next : (fs : List Entry) → fs ≡ put_entry (es (at' tl)) (wk tl).object (recorded_in (mv tl) (wk tl).call (access tl) its)
+  follow_next : (fs : List Entry) → fs ≡ put_entry (es (at' tl)) (wk tl).object (recorded_in (mv tl) (wk tl).call (access tl) its)
       → Running (table (at' tl)) (list (at' tl)) (given (at' tl)) c.if-i-lt-THREADS-5.threads fs tl.turn_in-turn.result tl.asked_in-asked.result tl.next_in-acting.result (at' tl).loop-acting.at
-  follow-next fs p =
+  follow_next fs p =
       followed_on (runs (at' tl)) (mv tl) (wk tl) (an tl) (in_effect_lem tl) c.if-i-lt-THREADS-5.threads fs _ _ _ gone
-      (p ∙ (λ i. put_entry (es (at' tl)) (wk tl).object (recorded_in (mv tl) (wk tl).call (record { path_id = tl.turn_in-turn.ensures i; version = is-version tl i }) its)))
-      tl.turn_in-turn.ensures tl.asked_in-asked.ensures (is-next' tl)
+      (p ∙ (λ i. put_entry (es (at' tl)) (wk tl).object (recorded_in (mv tl) (wk tl).call (record { path_id = tl.turn_in-turn.ensures i; version = is_version tl i }) its)))
+      tl.turn_in-turn.ensures tl.asked_in-asked.ensures (is_next' tl)
 
   -- the access, recorded in its place
-  recorded-there : is_begun (mv tl) ≡ true → (wk tl).object.0 < max_objects → (d : Entry) (fs : List Entry)
+  recorded_there : is_begun (mv tl) ≡ true → (wk tl).object.0 < max_objects → (d : Entry) (fs : List Entry)
       → fs ≡ put_entry (es (at' tl)) (wk tl).object (set_last_access (wk tl).call (access tl) (get_or (es (at' tl)) (wk tl).object.0 d))
       → Running (table (at' tl)) (list (at' tl)) (given (at' tl)) c.if-i-lt-THREADS-5.threads fs tl.turn_in-turn.result tl.asked_in-asked.result tl.next_in-acting.result (at' tl).loop-acting.at
-  recorded-there b h d fs p =
+  recorded_there b h d fs p =
       let same = taken_there (es (at' tl)) (wk tl).object.0 d (omega (arith, h, (runs (at' tl)).all)) in
-      follow-next fs
+      follow_next fs
       (p
       ∙ ap (λ (y : Entry). put_entry (es (at' tl)) (wk tl).object (set_last_access (wk tl).call (access tl) y)) same
       ∙ ap (put_entry (es (at' tl)) (wk tl).object) (recorded-begun (mv tl) (wk tl).call (access tl) its b))
@@ -588,7 +588,7 @@ module _ (c : Joined-i-lt-THREADS-5) where
   -- nothing is recorded
   unrecorded : its ≡ recorded_in (mv tl) (wk tl).call (access tl) its
       → Running (table (at' tl)) (list (at' tl)) (given (at' tl)) c.if-i-lt-THREADS-5.threads (es (at' tl)) tl.turn_in-turn.result tl.asked_in-asked.result tl.next_in-acting.result (at' tl).loop-acting.at
-  unrecorded h = follow-next (es (at' tl)) (sym (set-get_or (es (at' tl)) (wk tl).object.0 (new_entry no_object)) ∙ ap (put_entry (es (at' tl)) (wk tl).object) h)
+  unrecorded h = follow_next (es (at' tl)) (sym (set-get_or (es (at' tl)) (wk tl).object.0 (new_entry no_object)) ∙ ap (put_entry (es (at' tl)) (wk tl).object) h)
 
 pub loop-acting-init : goal.loop-acting-init
 loop-acting-init c =
@@ -616,7 +616,7 @@ loop-acting-preserved-in-Nobody c =
 )
 
 pub loop-acting-smaller-then-i-lt-THREADS-3 : goal.loop-acting-smaller-then-i-lt-THREADS-3
-loop-acting-smaller-then-i-lt-THREADS-3 c = omega (arith, quiet-less c.before.before)
+loop-acting-smaller-then-i-lt-THREADS-3 c = omega (arith, quiet_less c.before.before)
 
 pub loop-acting-preserved-then-i-lt-THREADS-3 : goal.loop-acting-preserved-then-i-lt-THREADS-3
 loop-acting-preserved-then-i-lt-THREADS-3 c =
@@ -625,7 +625,7 @@ loop-acting-preserved-then-i-lt-THREADS-3 c =
     (quiet_next y', length-set (ts w) (t (calm y')).0 (q y').thread ∙ six w)
 
 pub loop-acting-smaller-else-i-lt-THREADS-3 : goal.loop-acting-smaller-else-i-lt-THREADS-3
-loop-acting-smaller-else-i-lt-THREADS-3 c = omega (arith, quiet-less c.before.before)
+loop-acting-smaller-else-i-lt-THREADS-3 c = omega (arith, quiet_less c.before.before)
 
 pub loop-acting-preserved-else-i-lt-THREADS-3 : goal.loop-acting-preserved-else-i-lt-THREADS-3
 loop-acting-preserved-else-i-lt-THREADS-3 c =
@@ -637,250 +637,250 @@ loop-acting-preserved-else-i-lt-THREADS-3 c =
     )
 
 pub loop-acting-smaller-then-o-lt-OBJECTS-2 : goal.loop-acting-smaller-then-o-lt-OBJECTS-2
-loop-acting-smaller-then-o-lt-OBJECTS-2 c = omega (arith, wakes-less c.before.before.before.before.before.before c.if-wakes_spuriously.true)
+loop-acting-smaller-then-o-lt-OBJECTS-2 c = omega (arith, wakes_less c.before.before.before.before.before.before c.if-wakes_spuriously.true)
 
 pub loop-acting-preserved-then-o-lt-OBJECTS-2 : goal.loop-acting-preserved-then-o-lt-OBJECTS-2
 loop-acting-preserved-then-o-lt-OBJECTS-2 c =
     let k = c.before.before.before.before.before.before in
     let y : Entry = get_or (es (here (loud k))) (about (loud k)).object.0 _ in (
-      wakes-kept k c.if-wakes_spuriously.true _
+      wakes_kept k c.if-wakes_spuriously.true _
           (ap (λ (s : NotifyState). put_entry (es (here (loud k))) (about (loud k)).object (put_notify y s)) c.spur-q.ensures
           ∙ ap (λ (z : Entry). put_entry (es (here (loud k))) (about (loud k)).object (put_notify z (spur z.notify))) (there k _ c.if-o-lt-OBJECTS-2.true)),
       six (here (loud k)),
     )
 
 pub loop-acting-smaller-else-o-lt-OBJECTS-2 : goal.loop-acting-smaller-else-o-lt-OBJECTS-2
-loop-acting-smaller-else-o-lt-OBJECTS-2 c = omega (arith, wakes-less c.before.before.before c.if-wakes_spuriously.true)
+loop-acting-smaller-else-o-lt-OBJECTS-2 c = omega (arith, wakes_less c.before.before.before c.if-wakes_spuriously.true)
 
 pub loop-acting-preserved-else-o-lt-OBJECTS-2 : goal.loop-acting-preserved-else-o-lt-OBJECTS-2
 loop-acting-preserved-else-o-lt-OBJECTS-2 c =
     let k = c.before.before.before in
-    (wakes-kept k c.if-wakes_spuriously.true _ (unput k _ c.if-o-lt-OBJECTS-2.false), six (here (loud k)))
+    (wakes_kept k c.if-wakes_spuriously.true _ (unput k _ c.if-o-lt-OBJECTS-2.false), six (here (loud k)))
 
 pub loop-acting-smaller-in_default : goal.loop-acting-smaller-in_default
 loop-acting-smaller-in_default c =
     let r' = c.before.before.before in
-    omega (arith, arm-less (mutex-at r') (mutex-done r') (mutex_is r') _ c.outcome-acting.ensures)
+    omega (arith, arm_less (mutex_at r') (mutex_done r') (mutex_is r') _ c.outcome-acting.ensures)
 
 pub loop-acting-preserved-in_default : goal.loop-acting-preserved-in_default
 loop-acting-preserved-in_default c =
     let r' = c.before.before.before in
-    (arm-left (mutex-at r') (mutex-done r') (mutex_is r') _ c.outcome-acting.ensures (fails (mutex-done r').ending c.in_default.not-Fine), six (here (loud (mutex-at r'))))
+    (arm_left (mutex_at r') (mutex_done r') (mutex_is r') _ c.outcome-acting.ensures (fails (mutex_done r').ending c.in_default.not-Fine), six (here (loud (mutex_at r'))))
 
 pub loop-acting-smaller-then-o-lt-OBJECTS-4 : goal.loop-acting-smaller-then-o-lt-OBJECTS-4
 loop-acting-smaller-then-o-lt-OBJECTS-4 c =
     let r' = c.before.before.before.before.before.before in
-    omega (arith, fine-less (mutex-at r') (mutex-done r') (mutex_is r') c.in-Fine.is)
+    omega (arith, fine_less (mutex_at r') (mutex_done r') (mutex_is r') c.in-Fine.is)
 
 pub loop-acting-preserved-then-o-lt-OBJECTS-4 : goal.loop-acting-preserved-then-o-lt-OBJECTS-4
 loop-acting-preserved-then-o-lt-OBJECTS-4 c =
     let r' = c.before.before.before.before.before.before in
-    let w = mutex-at r' in (
-      fine-kept w (mutex-done r') (mutex_is r') c.in-Fine.is _
+    let w = mutex_at r' in (
+      fine_kept w (mutex_done r') (mutex_is r') c.in-Fine.is _
           (ap (λ (y : Entry). put_entry (es (here (loud w))) (about (loud w)).object (put_mutex y c.effect-r.result.state)) (there w _ c.if-o-lt-OBJECTS-4.true)),
-      mutex-full r',
+      mutex_full r',
     )
 
 pub loop-acting-smaller-else-o-lt-OBJECTS-4 : goal.loop-acting-smaller-else-o-lt-OBJECTS-4
 loop-acting-smaller-else-o-lt-OBJECTS-4 c =
     let r' = c.before.before.before.before in
-    omega (arith, fine-less (mutex-at r') (mutex-done r') (mutex_is r') c.in-Fine.is)
+    omega (arith, fine_less (mutex_at r') (mutex_done r') (mutex_is r') c.in-Fine.is)
 
 pub loop-acting-preserved-else-o-lt-OBJECTS-4 : goal.loop-acting-preserved-else-o-lt-OBJECTS-4
 loop-acting-preserved-else-o-lt-OBJECTS-4 c =
     let r' = c.before.before.before.before in
-    (fine-kept (mutex-at r') (mutex-done r') (mutex_is r') c.in-Fine.is _ (unput (mutex-at r') _ c.if-o-lt-OBJECTS-4.false), mutex-full r')
+    (fine_kept (mutex_at r') (mutex_done r') (mutex_is r') c.in-Fine.is _ (unput (mutex_at r') _ c.if-o-lt-OBJECTS-4.false), mutex_full r')
 
 pub loop-acting-smaller-in_default-ending : goal.loop-acting-smaller-in_default-ending
 loop-acting-smaller-in_default-ending c =
     let r' = c.before.before.before in
-    omega (arith, arm-less (rwlock-at r') (rwlock-done r') (rwlock-is r') _ c.outcome-acting-in_default-ending.ensures)
+    omega (arith, arm_less (rwlock_at r') (rwlock_done r') (rwlock_is r') _ c.outcome-acting-in_default-ending.ensures)
 
 pub loop-acting-preserved-in_default-ending : goal.loop-acting-preserved-in_default-ending
 loop-acting-preserved-in_default-ending c =
     let r' = c.before.before.before in
-    (arm-left (rwlock-at r') (rwlock-done r') (rwlock-is r') _ c.outcome-acting-in_default-ending.ensures (fails (rwlock-done r').ending c.in_default-ending.not-Fine), six (here (loud (rwlock-at r'))))
+    (arm_left (rwlock_at r') (rwlock_done r') (rwlock_is r') _ c.outcome-acting-in_default-ending.ensures (fails (rwlock_done r').ending c.in_default-ending.not-Fine), six (here (loud (rwlock_at r'))))
 
 pub loop-acting-smaller-then-o-lt-OBJECTS-6 : goal.loop-acting-smaller-then-o-lt-OBJECTS-6
 loop-acting-smaller-then-o-lt-OBJECTS-6 c =
     let r' = c.before.before.before.before.before.before in
-    omega (arith, fine-less (rwlock-at r') (rwlock-done r') (rwlock-is r') c.in-Fine-ending.is)
+    omega (arith, fine_less (rwlock_at r') (rwlock_done r') (rwlock_is r') c.in-Fine-ending.is)
 
 pub loop-acting-preserved-then-o-lt-OBJECTS-6 : goal.loop-acting-preserved-then-o-lt-OBJECTS-6
 loop-acting-preserved-then-o-lt-OBJECTS-6 c =
     let r' = c.before.before.before.before.before.before in
-    let w = rwlock-at r' in (
-      fine-kept w (rwlock-done r') (rwlock-is r') c.in-Fine-ending.is _
+    let w = rwlock_at r' in (
+      fine_kept w (rwlock_done r') (rwlock_is r') c.in-Fine-ending.is _
           (ap (λ (y : Entry). put_entry (es (here (loud w))) (about (loud w)).object (put_rw_lock y c.effect-r-in-RwLock.result.state)) (there w _ c.if-o-lt-OBJECTS-6.true)),
-      rwlock-full r',
+      rwlock_full r',
     )
 
 pub loop-acting-smaller-else-o-lt-OBJECTS-6 : goal.loop-acting-smaller-else-o-lt-OBJECTS-6
 loop-acting-smaller-else-o-lt-OBJECTS-6 c =
     let r' = c.before.before.before.before in
-    omega (arith, fine-less (rwlock-at r') (rwlock-done r') (rwlock-is r') c.in-Fine-ending.is)
+    omega (arith, fine_less (rwlock_at r') (rwlock_done r') (rwlock_is r') c.in-Fine-ending.is)
 
 pub loop-acting-preserved-else-o-lt-OBJECTS-6 : goal.loop-acting-preserved-else-o-lt-OBJECTS-6
 loop-acting-preserved-else-o-lt-OBJECTS-6 c =
     let r' = c.before.before.before.before in
-    (fine-kept (rwlock-at r') (rwlock-done r') (rwlock-is r') c.in-Fine-ending.is _ (unput (rwlock-at r') _ c.if-o-lt-OBJECTS-6.false), rwlock-full r')
+    (fine_kept (rwlock_at r') (rwlock_done r') (rwlock_is r') c.in-Fine-ending.is _ (unput (rwlock_at r') _ c.if-o-lt-OBJECTS-6.false), rwlock_full r')
 
 pub loop-acting-smaller-in_default-ending-2 : goal.loop-acting-smaller-in_default-ending-2
 loop-acting-smaller-in_default-ending-2 c =
     let r' = c.before.before.before in
-    omega (arith, arm-less (condvar-at r') (condvar-done r') (condvar-is r') _ c.outcome-acting-in_default-ending-2.ensures)
+    omega (arith, arm_less (condvar_at r') (condvar_done r') (condvar_is r') _ c.outcome-acting-in_default-ending-2.ensures)
 
 pub loop-acting-preserved-in_default-ending-2 : goal.loop-acting-preserved-in_default-ending-2
 loop-acting-preserved-in_default-ending-2 c =
     let r' = c.before.before.before in
-    (arm-left (condvar-at r') (condvar-done r') (condvar-is r') _ c.outcome-acting-in_default-ending-2.ensures (fails (condvar-done r').ending c.in_default-ending-2.not-Fine), six (here (loud (condvar-at r'))))
+    (arm_left (condvar_at r') (condvar_done r') (condvar_is r') _ c.outcome-acting-in_default-ending-2.ensures (fails (condvar_done r').ending c.in_default-ending-2.not-Fine), six (here (loud (condvar_at r'))))
 
 pub loop-acting-smaller-then-o-lt-OBJECTS-8 : goal.loop-acting-smaller-then-o-lt-OBJECTS-8
 loop-acting-smaller-then-o-lt-OBJECTS-8 c =
     let r' = c.before.before.before.before.before.before in
-    omega (arith, fine-less (condvar-at r') (condvar-done r') (condvar-is r') c.in-Fine-ending-2.is)
+    omega (arith, fine_less (condvar_at r') (condvar_done r') (condvar_is r') c.in-Fine-ending-2.is)
 
 pub loop-acting-preserved-then-o-lt-OBJECTS-8 : goal.loop-acting-preserved-then-o-lt-OBJECTS-8
 loop-acting-preserved-then-o-lt-OBJECTS-8 c =
     let r' = c.before.before.before.before.before.before in
-    let w = condvar-at r' in (
-      fine-kept w (condvar-done r') (condvar-is r') c.in-Fine-ending-2.is _
+    let w = condvar_at r' in (
+      fine_kept w (condvar_done r') (condvar_is r') c.in-Fine-ending-2.is _
           (ap (λ (y : Entry). put_entry (es (here (loud w))) (about (loud w)).object (put_condvar y c.effect-r-in-Condvar.result.state)) (there w _ c.if-o-lt-OBJECTS-8.true)),
-      condvar-full r',
+      condvar_full r',
     )
 
 pub loop-acting-smaller-else-o-lt-OBJECTS-8 : goal.loop-acting-smaller-else-o-lt-OBJECTS-8
 loop-acting-smaller-else-o-lt-OBJECTS-8 c =
     let r' = c.before.before.before.before in
-    omega (arith, fine-less (condvar-at r') (condvar-done r') (condvar-is r') c.in-Fine-ending-2.is)
+    omega (arith, fine_less (condvar_at r') (condvar_done r') (condvar_is r') c.in-Fine-ending-2.is)
 
 pub loop-acting-preserved-else-o-lt-OBJECTS-8 : goal.loop-acting-preserved-else-o-lt-OBJECTS-8
 loop-acting-preserved-else-o-lt-OBJECTS-8 c =
     let r' = c.before.before.before.before in
-    (fine-kept (condvar-at r') (condvar-done r') (condvar-is r') c.in-Fine-ending-2.is _ (unput (condvar-at r') _ c.if-o-lt-OBJECTS-8.false), condvar-full r')
+    (fine_kept (condvar_at r') (condvar_done r') (condvar_is r') c.in-Fine-ending-2.is _ (unput (condvar_at r') _ c.if-o-lt-OBJECTS-8.false), condvar_full r')
 
 pub loop-acting-smaller-in_default-ending-3 : goal.loop-acting-smaller-in_default-ending-3
 loop-acting-smaller-in_default-ending-3 c =
     let r' = c.before.before.before in
-    omega (arith, arm-less (notify-at r') (notify-done r') (notify-is r') _ c.outcome-acting-in_default-ending-3.ensures)
+    omega (arith, arm_less (notify_at r') (notify_done r') (notify_is r') _ c.outcome-acting-in_default-ending-3.ensures)
 
 pub loop-acting-preserved-in_default-ending-3 : goal.loop-acting-preserved-in_default-ending-3
 loop-acting-preserved-in_default-ending-3 c =
     let r' = c.before.before.before in
-    (arm-left (notify-at r') (notify-done r') (notify-is r') _ c.outcome-acting-in_default-ending-3.ensures (fails (notify-done r').ending c.in_default-ending-3.not-Fine), six (here (loud (notify-at r'))))
+    (arm_left (notify_at r') (notify_done r') (notify_is r') _ c.outcome-acting-in_default-ending-3.ensures (fails (notify_done r').ending c.in_default-ending-3.not-Fine), six (here (loud (notify_at r'))))
 
 pub loop-acting-smaller-then-o-lt-OBJECTS-10 : goal.loop-acting-smaller-then-o-lt-OBJECTS-10
 loop-acting-smaller-then-o-lt-OBJECTS-10 c =
     let r' = c.before.before.before.before.before.before in
-    omega (arith, fine-less (notify-at r') (notify-done r') (notify-is r') c.in-Fine-ending-3.is)
+    omega (arith, fine_less (notify_at r') (notify_done r') (notify_is r') c.in-Fine-ending-3.is)
 
 pub loop-acting-preserved-then-o-lt-OBJECTS-10 : goal.loop-acting-preserved-then-o-lt-OBJECTS-10
 loop-acting-preserved-then-o-lt-OBJECTS-10 c =
     let r' = c.before.before.before.before.before.before in
-    let w = notify-at r' in (
-      fine-kept w (notify-done r') (notify-is r') c.in-Fine-ending-3.is _
+    let w = notify_at r' in (
+      fine_kept w (notify_done r') (notify_is r') c.in-Fine-ending-3.is _
           (ap (λ (y : Entry). put_entry (es (here (loud w))) (about (loud w)).object (put_notify y c.effect-r-in-Notify.result.state)) (there w _ c.if-o-lt-OBJECTS-10.true)),
-      notify-full r',
+      notify_full r',
     )
 
 pub loop-acting-smaller-else-o-lt-OBJECTS-10 : goal.loop-acting-smaller-else-o-lt-OBJECTS-10
 loop-acting-smaller-else-o-lt-OBJECTS-10 c =
     let r' = c.before.before.before.before in
-    omega (arith, fine-less (notify-at r') (notify-done r') (notify-is r') c.in-Fine-ending-3.is)
+    omega (arith, fine_less (notify_at r') (notify_done r') (notify_is r') c.in-Fine-ending-3.is)
 
 pub loop-acting-preserved-else-o-lt-OBJECTS-10 : goal.loop-acting-preserved-else-o-lt-OBJECTS-10
 loop-acting-preserved-else-o-lt-OBJECTS-10 c =
     let r' = c.before.before.before.before in
-    (fine-kept (notify-at r') (notify-done r') (notify-is r') c.in-Fine-ending-3.is _ (unput (notify-at r') _ c.if-o-lt-OBJECTS-10.false), notify-full r')
+    (fine_kept (notify_at r') (notify_done r') (notify_is r') c.in-Fine-ending-3.is _ (unput (notify_at r') _ c.if-o-lt-OBJECTS-10.false), notify_full r')
 
 pub loop-acting-smaller-in_default-ending-4 : goal.loop-acting-smaller-in_default-ending-4
 loop-acting-smaller-in_default-ending-4 c =
     let r' = c.before.before.before in
-    omega (arith, arm-less (channel-at r') (channel-done r') (channel-is r') _ c.outcome-acting-in_default-ending-4.ensures)
+    omega (arith, arm_less (channel_at r') (channel_done r') (channel_is r') _ c.outcome-acting-in_default-ending-4.ensures)
 
 pub loop-acting-preserved-in_default-ending-4 : goal.loop-acting-preserved-in_default-ending-4
 loop-acting-preserved-in_default-ending-4 c =
     let r' = c.before.before.before in
-    (arm-left (channel-at r') (channel-done r') (channel-is r') _ c.outcome-acting-in_default-ending-4.ensures (fails (channel-done r').ending c.in_default-ending-4.not-Fine), six (here (loud (channel-at r'))))
+    (arm_left (channel_at r') (channel_done r') (channel_is r') _ c.outcome-acting-in_default-ending-4.ensures (fails (channel_done r').ending c.in_default-ending-4.not-Fine), six (here (loud (channel_at r'))))
 
 pub loop-acting-smaller-then-o-lt-OBJECTS-12 : goal.loop-acting-smaller-then-o-lt-OBJECTS-12
 loop-acting-smaller-then-o-lt-OBJECTS-12 c =
     let r' = c.before.before.before.before.before.before in
-    omega (arith, fine-less (channel-at r') (channel-done r') (channel-is r') c.in-Fine-ending-4.is)
+    omega (arith, fine_less (channel_at r') (channel_done r') (channel_is r') c.in-Fine-ending-4.is)
 
 pub loop-acting-preserved-then-o-lt-OBJECTS-12 : goal.loop-acting-preserved-then-o-lt-OBJECTS-12
 loop-acting-preserved-then-o-lt-OBJECTS-12 c =
     let r' = c.before.before.before.before.before.before in
-    let w = channel-at r' in (
-      fine-kept w (channel-done r') (channel-is r') c.in-Fine-ending-4.is _
+    let w = channel_at r' in (
+      fine_kept w (channel_done r') (channel_is r') c.in-Fine-ending-4.is _
           (ap (λ (y : Entry). put_entry (es (here (loud w))) (about (loud w)).object (put_channel y c.effect-r-in-Channel.result.state)) (there w _ c.if-o-lt-OBJECTS-12.true)),
-      channel-full r',
+      channel_full r',
     )
 
 pub loop-acting-smaller-else-o-lt-OBJECTS-12 : goal.loop-acting-smaller-else-o-lt-OBJECTS-12
 loop-acting-smaller-else-o-lt-OBJECTS-12 c =
     let r' = c.before.before.before.before in
-    omega (arith, fine-less (channel-at r') (channel-done r') (channel-is r') c.in-Fine-ending-4.is)
+    omega (arith, fine_less (channel_at r') (channel_done r') (channel_is r') c.in-Fine-ending-4.is)
 
 pub loop-acting-preserved-else-o-lt-OBJECTS-12 : goal.loop-acting-preserved-else-o-lt-OBJECTS-12
 loop-acting-preserved-else-o-lt-OBJECTS-12 c =
     let r' = c.before.before.before.before in
-    (fine-kept (channel-at r') (channel-done r') (channel-is r') c.in-Fine-ending-4.is _ (unput (channel-at r') _ c.if-o-lt-OBJECTS-12.false), channel-full r')
+    (fine_kept (channel_at r') (channel_done r') (channel_is r') c.in-Fine-ending-4.is _ (unput (channel_at r') _ c.if-o-lt-OBJECTS-12.false), channel_full r')
 
 pub loop-acting-smaller-in_default-ending-5 : goal.loop-acting-smaller-in_default-ending-5
 loop-acting-smaller-in_default-ending-5 c =
     let r' = c.before.before.before in
-    omega (arith, arm-less (arc-at r') (arc-done r') (arc-is r') _ c.outcome-acting-in_default-ending-5.ensures)
+    omega (arith, arm_less (arc_at r') (arc_done r') (arc_is r') _ c.outcome-acting-in_default-ending-5.ensures)
 
 pub loop-acting-preserved-in_default-ending-5 : goal.loop-acting-preserved-in_default-ending-5
 loop-acting-preserved-in_default-ending-5 c =
     let r' = c.before.before.before in
-    (arm-left (arc-at r') (arc-done r') (arc-is r') _ c.outcome-acting-in_default-ending-5.ensures (fails (arc-done r').ending c.in_default-ending-5.not-Fine), six (here (loud (arc-at r'))))
+    (arm_left (arc_at r') (arc_done r') (arc_is r') _ c.outcome-acting-in_default-ending-5.ensures (fails (arc_done r').ending c.in_default-ending-5.not-Fine), six (here (loud (arc_at r'))))
 
 pub loop-acting-smaller-then-o-lt-OBJECTS-14 : goal.loop-acting-smaller-then-o-lt-OBJECTS-14
 loop-acting-smaller-then-o-lt-OBJECTS-14 c =
     let r' = c.before.before.before.before.before.before in
-    omega (arith, fine-less (arc-at r') (arc-done r') (arc-is r') c.in-Fine-ending-5.is)
+    omega (arith, fine_less (arc_at r') (arc_done r') (arc_is r') c.in-Fine-ending-5.is)
 
 pub loop-acting-preserved-then-o-lt-OBJECTS-14 : goal.loop-acting-preserved-then-o-lt-OBJECTS-14
 loop-acting-preserved-then-o-lt-OBJECTS-14 c =
     let r' = c.before.before.before.before.before.before in
-    let w = arc-at r' in (
-      fine-kept w (arc-done r') (arc-is r') c.in-Fine-ending-5.is _
+    let w = arc_at r' in (
+      fine_kept w (arc_done r') (arc_is r') c.in-Fine-ending-5.is _
           (ap (λ (y : Entry). put_entry (es (here (loud w))) (about (loud w)).object (put_arc y c.effect-r-in-Arc.result.state)) (there w _ c.if-o-lt-OBJECTS-14.true)),
-      arc-full r',
+      arc_full r',
     )
 
 pub loop-acting-smaller-else-o-lt-OBJECTS-14 : goal.loop-acting-smaller-else-o-lt-OBJECTS-14
 loop-acting-smaller-else-o-lt-OBJECTS-14 c =
     let r' = c.before.before.before.before in
-    omega (arith, fine-less (arc-at r') (arc-done r') (arc-is r') c.in-Fine-ending-5.is)
+    omega (arith, fine_less (arc_at r') (arc_done r') (arc_is r') c.in-Fine-ending-5.is)
 
 pub loop-acting-preserved-else-o-lt-OBJECTS-14 : goal.loop-acting-preserved-else-o-lt-OBJECTS-14
 loop-acting-preserved-else-o-lt-OBJECTS-14 c =
     let r' = c.before.before.before.before in
-    (fine-kept (arc-at r') (arc-done r') (arc-is r') c.in-Fine-ending-5.is _ (unput (arc-at r') _ c.if-o-lt-OBJECTS-14.false), arc-full r')
+    (fine_kept (arc_at r') (arc_done r') (arc_is r') c.in-Fine-ending-5.is _ (unput (arc_at r') _ c.if-o-lt-OBJECTS-14.false), arc_full r')
 
 pub loop-acting-smaller-in_default-ending-6 : goal.loop-acting-smaller-in_default-ending-6
 loop-acting-smaller-in_default-ending-6 c =
     let r' = c.before.before.before in
-    omega (arith, arm-less (cell_at r') (cell-done r') (cell-is r') _ c.outcome-acting-in_default-ending-6.ensures)
+    omega (arith, arm_less (cell_at r') (cell_done r') (cell_is r') _ c.outcome-acting-in_default-ending-6.ensures)
 
 pub loop-acting-preserved-in_default-ending-6 : goal.loop-acting-preserved-in_default-ending-6
 loop-acting-preserved-in_default-ending-6 c =
     let r' = c.before.before.before in
-    (arm-left (cell_at r') (cell-done r') (cell-is r') _ c.outcome-acting-in_default-ending-6.ensures (fails (cell-done r').ending c.in_default-ending-6.not-Fine), six (here (loud (cell_at r'))))
+    (arm_left (cell_at r') (cell_done r') (cell_is r') _ c.outcome-acting-in_default-ending-6.ensures (fails (cell_done r').ending c.in_default-ending-6.not-Fine), six (here (loud (cell_at r'))))
 
 pub loop-acting-smaller-then-o-lt-OBJECTS-16 : goal.loop-acting-smaller-then-o-lt-OBJECTS-16
 loop-acting-smaller-then-o-lt-OBJECTS-16 c =
     let r' = c.before.before.before.before.before.before in
-    omega (arith, fine-less (cell_at r') (cell-done r') (cell-is r') c.in-Fine-ending-6.is)
+    omega (arith, fine_less (cell_at r') (cell_done r') (cell_is r') c.in-Fine-ending-6.is)
 
 pub loop-acting-preserved-then-o-lt-OBJECTS-16 : goal.loop-acting-preserved-then-o-lt-OBJECTS-16
 loop-acting-preserved-then-o-lt-OBJECTS-16 c =
     let r' = c.before.before.before.before.before.before in
     let w = cell_at r' in (
-      fine-kept w (cell-done r') (cell-is r') c.in-Fine-ending-6.is _
+      fine_kept w (cell_done r') (cell_is r') c.in-Fine-ending-6.is _
           (ap (λ (y : Entry). put_entry (es (here (loud w))) (about (loud w)).object (put_cell y c.effect-r-in-Cell.result.state)) (there w _ c.if-o-lt-OBJECTS-16.true)),
       cell_full r',
     )
@@ -888,87 +888,87 @@ loop-acting-preserved-then-o-lt-OBJECTS-16 c =
 pub loop-acting-smaller-else-o-lt-OBJECTS-16 : goal.loop-acting-smaller-else-o-lt-OBJECTS-16
 loop-acting-smaller-else-o-lt-OBJECTS-16 c =
     let r' = c.before.before.before.before in
-    omega (arith, fine-less (cell_at r') (cell-done r') (cell-is r') c.in-Fine-ending-6.is)
+    omega (arith, fine_less (cell_at r') (cell_done r') (cell_is r') c.in-Fine-ending-6.is)
 
 pub loop-acting-preserved-else-o-lt-OBJECTS-16 : goal.loop-acting-preserved-else-o-lt-OBJECTS-16
 loop-acting-preserved-else-o-lt-OBJECTS-16 c =
     let r' = c.before.before.before.before in
-    (fine-kept (cell_at r') (cell-done r') (cell-is r') c.in-Fine-ending-6.is _ (unput (cell_at r') _ c.if-o-lt-OBJECTS-16.false), cell_full r')
+    (fine_kept (cell_at r') (cell_done r') (cell_is r') c.in-Fine-ending-6.is _ (unput (cell_at r') _ c.if-o-lt-OBJECTS-16.false), cell_full r')
 
 pub loop-acting-smaller-in-Mutex-work_call : goal.loop-acting-smaller-in-Mutex-work_call
-loop-acting-smaller-in-Mutex-work_call c = omega (arith, follow-less (tl c.before.before.before.before.before.before.before.before))
+loop-acting-smaller-in-Mutex-work_call c = omega (arith, follow_less (tl c.before.before.before.before.before.before.before.before))
 
 pub loop-acting-preserved-in-Mutex-work_call : goal.loop-acting-preserved-in-Mutex-work_call
 loop-acting-preserved-in-Mutex-work_call c =
     let j = c.before.before.before.before.before.before.before.before in
     let y : Entry = get_or (es (at' (tl j))) (wk (tl j)).object.0 _ in (
-      recorded-there j (sym c.is_begun-then-o-lt-OBJECTS-18.ensures ∙ c.if-is_begun.true) c.if-o-lt-OBJECTS-18.true _ _
+      recorded_there j (sym c.is_begun-then-o-lt-OBJECTS-18.ensures ∙ c.if-is_begun.true) c.if-o-lt-OBJECTS-18.true _ _
           (ap (put_entry (es (at' (tl j))) (wk (tl j)).object) (recorded_mutex (access (tl j)) y c.in-Mutex-work_call.is _ c.set_last_access-q.ensures)),
-      gone-full j,
+      gone_full j,
     )
 
 pub loop-acting-smaller-in-RwLock-work_call : goal.loop-acting-smaller-in-RwLock-work_call
-loop-acting-smaller-in-RwLock-work_call c = omega (arith, follow-less (tl c.before.before.before.before.before.before.before.before))
+loop-acting-smaller-in-RwLock-work_call c = omega (arith, follow_less (tl c.before.before.before.before.before.before.before.before))
 
 pub loop-acting-preserved-in-RwLock-work_call : goal.loop-acting-preserved-in-RwLock-work_call
 loop-acting-preserved-in-RwLock-work_call c =
     let j = c.before.before.before.before.before.before.before.before in
     let y : Entry = get_or (es (at' (tl j))) (wk (tl j)).object.0 _ in (
-      recorded-there j (sym c.is_begun-then-o-lt-OBJECTS-18.ensures ∙ c.if-is_begun.true) c.if-o-lt-OBJECTS-18.true _ _
+      recorded_there j (sym c.is_begun-then-o-lt-OBJECTS-18.ensures ∙ c.if-is_begun.true) c.if-o-lt-OBJECTS-18.true _ _
           (ap (put_entry (es (at' (tl j))) (wk (tl j)).object) (recorded_rwlock (access (tl j)) y c.in-RwLock-work_call.is _ c.set_last_access-q-in-RwLock-work_call.ensures)),
-      gone-full j,
+      gone_full j,
     )
 
 pub loop-acting-smaller-in-Condvar-work_call : goal.loop-acting-smaller-in-Condvar-work_call
-loop-acting-smaller-in-Condvar-work_call c = omega (arith, follow-less (tl c.before.before.before.before.before.before.before.before))
+loop-acting-smaller-in-Condvar-work_call c = omega (arith, follow_less (tl c.before.before.before.before.before.before.before.before))
 
 pub loop-acting-preserved-in-Condvar-work_call : goal.loop-acting-preserved-in-Condvar-work_call
 loop-acting-preserved-in-Condvar-work_call c =
     let j = c.before.before.before.before.before.before.before.before in
     let y : Entry = get_or (es (at' (tl j))) (wk (tl j)).object.0 _ in (
-      recorded-there j (sym c.is_begun-then-o-lt-OBJECTS-18.ensures ∙ c.if-is_begun.true) c.if-o-lt-OBJECTS-18.true _ _
+      recorded_there j (sym c.is_begun-then-o-lt-OBJECTS-18.ensures ∙ c.if-is_begun.true) c.if-o-lt-OBJECTS-18.true _ _
           (ap (put_entry (es (at' (tl j))) (wk (tl j)).object) (recorded_condvar (access (tl j)) y c.in-Condvar-work_call.is _ c.set_last_access-q-in-Condvar-work_call.ensures)),
-      gone-full j,
+      gone_full j,
     )
 
 pub loop-acting-smaller-in-Notify-work_call : goal.loop-acting-smaller-in-Notify-work_call
-loop-acting-smaller-in-Notify-work_call c = omega (arith, follow-less (tl c.before.before.before.before.before.before.before.before))
+loop-acting-smaller-in-Notify-work_call c = omega (arith, follow_less (tl c.before.before.before.before.before.before.before.before))
 
 pub loop-acting-preserved-in-Notify-work_call : goal.loop-acting-preserved-in-Notify-work_call
 loop-acting-preserved-in-Notify-work_call c =
     let j = c.before.before.before.before.before.before.before.before in
     let y : Entry = get_or (es (at' (tl j))) (wk (tl j)).object.0 _ in (
-      recorded-there j (sym c.is_begun-then-o-lt-OBJECTS-18.ensures ∙ c.if-is_begun.true) c.if-o-lt-OBJECTS-18.true _ _
+      recorded_there j (sym c.is_begun-then-o-lt-OBJECTS-18.ensures ∙ c.if-is_begun.true) c.if-o-lt-OBJECTS-18.true _ _
           (ap (put_entry (es (at' (tl j))) (wk (tl j)).object) (recorded_notify (access (tl j)) y c.in-Notify-work_call.is _ c.set_last_access-q-in-Notify-work_call.ensures)),
-      gone-full j,
+      gone_full j,
     )
 
 pub loop-acting-smaller-in-Channel-work_call : goal.loop-acting-smaller-in-Channel-work_call
-loop-acting-smaller-in-Channel-work_call c = omega (arith, follow-less (tl c.before.before.before.before.before.before.before.before.before))
+loop-acting-smaller-in-Channel-work_call c = omega (arith, follow_less (tl c.before.before.before.before.before.before.before.before.before))
 
 pub loop-acting-preserved-in-Channel-work_call : goal.loop-acting-preserved-in-Channel-work_call
 loop-acting-preserved-in-Channel-work_call c =
     let j = c.before.before.before.before.before.before.before.before.before in
     let y : Entry = get_or (es (at' (tl j))) (wk (tl j)).object.0 _ in (
-      recorded-there j (sym c.is_begun-then-o-lt-OBJECTS-18.ensures ∙ c.if-is_begun.true) c.if-o-lt-OBJECTS-18.true _ _
+      recorded_there j (sym c.is_begun-then-o-lt-OBJECTS-18.ensures ∙ c.if-is_begun.true) c.if-o-lt-OBJECTS-18.true _ _
           (ap (put_entry (es (at' (tl j))) (wk (tl j)).object) (recorded_channel (access (tl j)) y c.in-Channel-work_call.is _ (c.set_last_access-q-in-Channel-work_call.ensures ∙ ap (λ (a : ChannelAction). mpsc.set_last_access a (access (tl j)) y.channel) c.action_of.ensures))),
-      gone-full j,
+      gone_full j,
     )
 
 pub loop-acting-smaller-in-Arc-work_call : goal.loop-acting-smaller-in-Arc-work_call
-loop-acting-smaller-in-Arc-work_call c = omega (arith, follow-less (tl c.before.before.before.before.before.before.before.before.before))
+loop-acting-smaller-in-Arc-work_call c = omega (arith, follow_less (tl c.before.before.before.before.before.before.before.before.before))
 
 pub loop-acting-preserved-in-Arc-work_call : goal.loop-acting-preserved-in-Arc-work_call
 loop-acting-preserved-in-Arc-work_call c =
     let j = c.before.before.before.before.before.before.before.before.before in
     let y : Entry = get_or (es (at' (tl j))) (wk (tl j)).object.0 _ in (
-      recorded-there j (sym c.is_begun-then-o-lt-OBJECTS-18.ensures ∙ c.if-is_begun.true) c.if-o-lt-OBJECTS-18.true _ _
+      recorded_there j (sym c.is_begun-then-o-lt-OBJECTS-18.ensures ∙ c.if-is_begun.true) c.if-o-lt-OBJECTS-18.true _ _
           (ap (put_entry (es (at' (tl j))) (wk (tl j)).object) (recorded_arc (access (tl j)) y c.in-Arc-work_call.is _ (c.set_last_access-q-in-Arc-work_call.ensures ∙ ap (λ (a : ArcAction). arc.set_last_access a (access (tl j)) y.arc) c.action_of-in-Arc-work_call.ensures))),
-      gone-full j,
+      gone_full j,
     )
 
 pub loop-acting-smaller-in-Cell-work_call : goal.loop-acting-smaller-in-Cell-work_call
-loop-acting-smaller-in-Cell-work_call c = omega (arith, follow-less (tl c.before.before.before.before.before))
+loop-acting-smaller-in-Cell-work_call c = omega (arith, follow_less (tl c.before.before.before.before.before))
 
 pub loop-acting-preserved-in-Cell-work_call : goal.loop-acting-preserved-in-Cell-work_call
 loop-acting-preserved-in-Cell-work_call c =
@@ -977,24 +977,24 @@ loop-acting-preserved-in-Cell-work_call c =
       unrecorded j
           (recorded_cell (access (tl j)) (its j) c.in-Cell-work_call.is
           ∙ recorded-begun (mv (tl j)) (wk (tl j)).call (access (tl j)) (its j) (sym c.is_begun-then-o-lt-OBJECTS-18.ensures ∙ c.if-is_begun.true)),
-      gone-full j,
+      gone_full j,
     )
 
 pub loop-acting-smaller-else-is_begun : goal.loop-acting-smaller-else-is_begun
-loop-acting-smaller-else-is_begun c = omega (arith, follow-less (tl c.before.before.before.before))
+loop-acting-smaller-else-is_begun c = omega (arith, follow_less (tl c.before.before.before.before))
 
 pub loop-acting-preserved-else-is_begun : goal.loop-acting-preserved-else-is_begun
 loop-acting-preserved-else-is_begun c =
     let j = c.before.before.before.before in
-    (unrecorded j (recorded_not (mv (tl j)) (wk (tl j)).call (access (tl j)) (its j) (sym c.is_begun-then-o-lt-OBJECTS-18.ensures ∙ c.if-is_begun.false)), gone-full j)
+    (unrecorded j (recorded_not (mv (tl j)) (wk (tl j)).call (access (tl j)) (its j) (sym c.is_begun-then-o-lt-OBJECTS-18.ensures ∙ c.if-is_begun.false)), gone_full j)
 
 pub loop-acting-smaller-else-o-lt-OBJECTS-18 : goal.loop-acting-smaller-else-o-lt-OBJECTS-18
-loop-acting-smaller-else-o-lt-OBJECTS-18 c = omega (arith, follow-less (tl c.before.before))
+loop-acting-smaller-else-o-lt-OBJECTS-18 c = omega (arith, follow_less (tl c.before.before))
 
 pub loop-acting-preserved-else-o-lt-OBJECTS-18 : goal.loop-acting-preserved-else-o-lt-OBJECTS-18
 loop-acting-preserved-else-o-lt-OBJECTS-18 c =
     let j = c.before.before in
-    (follow-next j _ (sym (set_out (es (at' (tl j))) (wk (tl j)).object.0 _ (omega (arith, c.if-o-lt-OBJECTS-18.false, (runs (at' (tl j))).all)))), gone-full j)
+    (follow_next j _ (sym (set_out (es (at' (tl j))) (wk (tl j)).object.0 _ (omega (arith, c.if-o-lt-OBJECTS-18.false, (runs (at' (tl j))).all)))), gone_full j)
 
 pub loop-acting-smaller-in-Over : goal.loop-acting-smaller-in-Over
 loop-acting-smaller-in-Over c = omega (arith, turn_over_less (runs c.before.before.before) c.in-Over.is _ c.after-acting.ensures)
