@@ -14,7 +14,7 @@ returns c =
     let shown : Bool → List ℕ = λ b. elim b [ true ↦ sets before 0 bytes | false ↦ before ] in
     let after : c.if-is_shown.sheet ≡ shown (is_shown c.args.end) =
     elim c.if-is_shown.branch [
-      then-is_shown w ↦ w.sheet-is ∙ w.write_sheet.ensures ∙ ap shown (sym w.if-is_shown.true ∙ c.is_shown.ensures)
+      | then-is_shown w ↦ w.sheet-is ∙ w.write_sheet.ensures ∙ ap shown (sym w.if-is_shown.true ∙ c.is_shown.ensures)
       | else-is_shown w ↦ w.sheet-is ∙ ap shown (sym w.if-is_shown.false ∙ c.is_shown.ensures)
     ] in
     λ i. record { answer = c.answer_of.ensures i; buffer = after i }

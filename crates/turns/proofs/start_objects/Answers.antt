@@ -32,7 +32,7 @@ loop-k-preserved c =
     let seen = get_or-within ms l.k _ no_object within in
     let made : c.if-is_made.out ≡ passed (made_at ms) (l.k + 1) 0 es =
     elim c.if-is_made.branch [
-      then-is_made w ↦ w.out-is ∙ turned (made_at ms) l.k es (new_entry no_object) _ _ (omega (arith, l.invariant.2, test)) l.invariant.3 (w.new_entry.ensures ∙ ap new_entry seen)
+      | then-is_made w ↦ w.out-is ∙ turned (made_at ms) l.k es (new_entry no_object) _ _ (omega (arith, l.invariant.2, test)) l.invariant.3 (w.new_entry.ensures ∙ ap new_entry seen)
       | else-is_made w ↦
           w.out-is
           ∙ left_out ms l.k absent.result _ absent.ensures (omega (arith, test)) l.invariant.3

@@ -609,11 +609,10 @@ loop-acting-smaller-in-Nobody c = decision_less (runs c.before.before.before.bef
 
 pub loop-acting-preserved-in-Nobody : goal.loop-acting-preserved-in-Nobody
 loop-acting-preserved-in-Nobody c =
-    let w = c.before.before.before.before.before.before.before.before.before.before in
-    (
-  decision (runs w) c.in-Nobody.is (omega (arith, c.if-at-list.false)) (allowed c.before.before ∙ c.if-not-allowed_in.false) _ c.chosen-m.ensures,
-  six w,
-)
+    let w = c.before.before.before.before.before.before.before.before.before.before in (
+      decision (runs w) c.in-Nobody.is (omega (arith, c.if-at-list.false)) (allowed c.before.before ∙ c.if-not-allowed_in.false) _ c.chosen-m.ensures,
+      six w,
+    )
 
 pub loop-acting-smaller-then-i-lt-THREADS-3 : goal.loop-acting-smaller-then-i-lt-THREADS-3
 loop-acting-smaller-then-i-lt-THREADS-3 c = omega (arith, quiet_less c.before.before)
@@ -972,8 +971,7 @@ loop-acting-smaller-in-Cell-work_call c = omega (arith, follow_less (tl c.before
 
 pub loop-acting-preserved-in-Cell-work_call : goal.loop-acting-preserved-in-Cell-work_call
 loop-acting-preserved-in-Cell-work_call c =
-    let j = c.before.before.before.before.before in
-    (
+    let j = c.before.before.before.before.before in (
       unrecorded j
           (recorded_cell (access (tl j)) (its j) c.in-Cell-work_call.is
           ∙ recorded-begun (mv (tl j)) (wk (tl j)).call (access (tl j)) (its j) (sym c.is_begun-then-o-lt-OBJECTS-18.ensures ∙ c.if-is_begun.true)),

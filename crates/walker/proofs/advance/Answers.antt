@@ -19,7 +19,7 @@ module _ (c : Joined-path-lt-LIST) where
   is_n : c.if-path-lt-LIST.n ≡ min c.args.w.path.at max_list
   is_n =
       elim c.if-path-lt-LIST.branch [
-        then-path-lt-LIST x ↦ let e = x.n-is in let h = x.if-path-lt-LIST.true in omega (arith, e, h)
+        | then-path-lt-LIST x ↦ let e = x.n-is in let h = x.if-path-lt-LIST.true in omega (arith, e, h)
         | else-path-lt-LIST x ↦ let e = x.n-is in let h = x.if-path-lt-LIST.false in omega (arith, e, h)
       ]
 

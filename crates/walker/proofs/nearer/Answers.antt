@@ -10,7 +10,7 @@ is_base : (c : Joined-p-kept) → c.if-p-kept.base ≡ not_behind c.args.table c
 is_base c =
     let a = c.args in
     elim c.if-p-kept.branch [
-      then-p-kept w ↦ w.base-is ∙ w.at_start-base.ensures ∙ behind a.table a.list.now a.kept a.p w.if-p-kept.true
+      | then-p-kept w ↦ w.base-is ∙ w.at_start-base.ensures ∙ behind a.table a.list.now a.kept a.p w.if-p-kept.true
       | else-p-kept w ↦ w.base-is ∙ behind_not a.table a.list.now a.kept a.p w.if-p-kept.false
     ]
 
