@@ -3,11 +3,13 @@
 
 mod line;
 
-ghost use Rattle.std.specs.Prelude.{◌≡◌, ◌≤◌, ◌<◌, min, length};
+ghost use Rattle.std.specs.Prelude.{◌≡◌, ◌≤◌, ◌<◌, IfOk, min, length};
 
 use line::put_line;
 use rules::answer::Answer;
 use rules::table::{LIST, Table, Taken};
+use std::io;
+use std::io::{Cursor, Read, Write};
 use turns_answer::numbers;
 use turns_run::End;
 use turns_table::read_table;
@@ -26,36 +28,30 @@ fn at_most(n: usize, most: usize) -> usize
     if n < most { n } else { most }
 }
 
-// Nothing says that an input ends, so the reads are counted down, from a number that no run uses up.
-fn pass_over(from: i32) {
-    let mut turns = u64::MAX;
-    while turns > 0 {
-        let mut piece = io::buffer();
-        if libc::read(from, &mut piece) <= 0 {
-            return;
-        }
-        turns -= 1;
-    }
+// Reads to the end, and keeps nothing.
+fn pass_over<R: Read>(from: &mut R) -> io::Result<()> {
+    io::copy(from, &mut io::sink())?;
+    Ok(())
 }
 
 // The front part of the input; the rest is read and changes nothing, since a longer table is refused within the front part.
-fn read_input(from: i32, table: &mut [u8]) -> usize
-    ensures { result ≤ 2048 }
+fn read_input<R: Read>(from: &mut R, table: &mut [u8]) -> io::Result<usize>
+    ensures { IfOk result (λ n. n ≤ 2048) }
 {
-    let n = io::read_full(from, table);
-    if n == table.len() {
-        pass_over(from);
+    let room = table.len();
+    let mut front = from.by_ref().take(room as u64);
+    let n = io::copy(&mut front, &mut Cursor::new(table))? as usize;
+    if n == room {
+        pass_over(from)?;
     }
-    at_most(n, TABLE)
+    Ok(at_most(n, TABLE))
 }
 
-fn say_refused(to: i32, a: Answer) {
+fn say_refused<W: Write>(to: &mut W, a: Answer) -> io::Result<()> {
     let six = numbers(a);
-    io::write_all(to, b"refused ");
-    io::print_decimal(to, six.number as u64);
-    io::write_all(to, b" at ");
-    io::print_decimal(to, six.place as u64);
-    io::write_all(to, b"\n");
+    let number = six.number;
+    let place = six.place;
+    writeln!(to, "refused {number} at {place}")
 }
 
 // The number of a run's verdict; an end that is none has no digit.
@@ -68,29 +64,17 @@ fn verdict(end: End) -> u8 {
 }
 
 // Writes what waits.
-fn flush(to: i32, out: &[u8], used: usize) -> bool {
-    if out.len() < used {
-        return false;
-    }
-    io::write_all(to, &out[..used])
+fn flush<W: Write>(to: &mut W, out: &[u8], used: usize) -> io::Result<()> {
+    to.write_all(&out[..at_most(used, out.len())])
 }
 
-// Where the next line may begin.
-#[derive(Drop)]
-enum Room {
-    From(usize),
-    Failed,
-}
-
-// What waits is written where there is no room for another line.
-fn make_room(to: i32, out: &[u8], used: usize) -> Room {
+// Where the next line may begin: what waits is written where there is no room for another line.
+fn make_room<W: Write>(to: &mut W, out: &[u8], used: usize) -> io::Result<usize> {
     if used <= OUT - LINE {
-        return Room::From(used);
+        return Ok(used);
     }
-    if flush(to, out, used) {
-        return Room::From(0);
-    }
-    Room::Failed
+    flush(to, out, used)?;
+    Ok(0)
 }
 
 // Adds the line of one run, and hands back how much waits then.
@@ -101,40 +85,35 @@ fn add_line(end: End, list: &[u8], out: &mut [u8], used: usize) -> usize
     put_line(out, at, verdict(end), list)
 }
 
-// The runs of a table. Nothing says that they end, so they are counted down, from a number that no walk uses up.
-fn go_through(table: Table, to: i32) {
+// The runs of a table. Nothing says that they end, so they are counted, up to a number that no walk reaches.
+fn go_through<W: Write>(table: Table, to: &mut W) -> io::Result<()> {
     let mut out = [0u8; OUT];
     let mut w = begin(table);
     let mut used = 0;
-    let mut turns = u64::MAX;
-    while turns > 0 {
+    for _ in 0..u64::MAX {
         if w.over {
-            flush(to, &out, used);
-            return;
+            return flush(to, &out, used);
         }
-        let Room::From(at) = make_room(to, &out, used) else {
-            return;
-        };
+        let at = make_room(to, &out, used)?;
         let path = w.path;
         let list = path.list;
         let end = path.end;
         let n = at_most(path.at, LIST);
         used = add_line(end, &list[..n], &mut out, at);
         w = advance(w);
-        turns -= 1;
     }
+    Ok(())
 }
 
 // Reads a table, and writes a line for each run of it, or its refusal.
-pub fn list_runs(from: i32, to: i32) {
+pub fn list_runs<R: Read, W: Write>(from: &mut R, to: &mut W) -> io::Result<()> {
     let mut table = [0u8; TABLE];
-    let n = read_input(from, &mut table);
+    let n = read_input(from, &mut table)?;
     let read = read_table(&table[..n]);
     let taken = read.taken;
     let t = read.table;
     let Taken::Refused(a) = taken else {
-        go_through(t, to);
-        return;
+        return go_through(t, to);
     };
-    say_refused(to, a);
+    say_refused(to, a)
 }
