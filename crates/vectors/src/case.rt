@@ -53,9 +53,10 @@ fn find(text: &[u8], from: usize, b: u8) -> usize
     ensures value { result ≡ from + position_or_len (λ x. x == b) (drop from text.now) }
     ensures bound { (from ≤ result) × (result ≤ length text.now) }
 {
-    for i in from..text.len() {
-        if text[i] == b {
-            return i;
+    let rest = &text[from..];
+    for i in 0..rest.len() {
+        if rest[i] == b {
+            return from + i;
         }
     }
     text.len()
@@ -80,8 +81,8 @@ fn is_answer(text: &[u8], six: [usize; 6]) -> bool
 }
 
 fn filled(b: u8) -> [u8; ROOM]
-    ensures value { 2048 ≡ length result }
-    ensures value_2 { result ≡ replicate 2048 b }
+    ensures length { 2048 ≡ length result }
+    ensures value { result ≡ replicate 2048 b }
 {
     [b; ROOM]
 }
@@ -106,7 +107,7 @@ fn gives(
     told: &[u8],
 ) -> bool
     ensures agreed { result ≡ true → Agreed call table.now list.now buffer.old answer.now told.now }
-    ensures value { Agreed call table.now list.now buffer.old answer.now told.now → result ≡ true }
+    ensures agrees { Agreed call table.now list.now buffer.old answer.now told.now → result ≡ true }
 {
     let a = made(call, table, list, buffer);
     let six = in_order(numbers(a));
