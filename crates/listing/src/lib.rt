@@ -3,13 +3,18 @@
 
 mod line;
 
-ghost use Rattle.std.specs.Prelude.{◌≡◌, ◌≤◌, ◌<◌, IfOk, min, length};
+ghost use Rattle.std.specs.Prelude.{◌≡◌, ◌≤◌, ◌<◌, ◌+◌, ◌-◌, ◌*◌, ◌^◌, ◌++◌, IfOk, IfSome, OnOk, min, length, take};
+ghost use Rattle.std.specs.Io.KnownBytes.{Appends, Consumes, IsAtEnd};
+ghost use Rattle.rules.specs.Answer.{numbers_of};
+ghost use Rattle.rules.specs.Walk.{runs_of};
+ghost use Rattle.walker.specs.Walking.{begun};
+ghost use Rattle.listing.specs.Told.{end_number, end_line, lines, Moves, refusal};
 
 use line::put_line;
 use rules::answer::Answer;
 use rules::table::{LIST, Table, Taken};
 use std::io;
-use std::io::{Cursor, Read, Write};
+use std::io::{Read, Write};
 use turns_answer::numbers;
 use turns_run::End;
 use turns_table::read_table;
@@ -34,20 +39,41 @@ fn pass_over<R: Read>(from: &mut R) -> io::Result<()> {
     Ok(())
 }
 
+// Reads until the slice is full or the input ends, and hands back how many bytes came.
+fn fill<R: Read>(from: &mut R, table: &mut [u8]) -> io::Result<usize>
+    ensures bound { IfOk result (λ n. n ≤ length table.new) }
+    ensures bytes { IfOk result (λ n. Consumes (R.remaining from.old) (R.remaining from.new) (take n table.new)) }
+    ensures end { IfOk result (λ n. n < length table.new → IsAtEnd (R.remaining from.new)) }
+{
+    let mut done = 0;
+    for _ in 0..u64::MAX {
+        if table.len() <= done {
+            break;
+        }
+        let n = from.read(&mut table[done..])?;
+        if n == 0 {
+            break;
+        }
+        done += n;
+    }
+    Ok(done)
+}
+
 // The front part of the input; the rest is read and changes nothing, since a longer table is refused within the front part.
 fn read_input<R: Read>(from: &mut R, table: &mut [u8]) -> io::Result<usize>
-    ensures { IfOk result (λ n. n ≤ 2048) }
+    ensures bound { IfOk result (λ n. n ≤ 2048) }
+    ensures front { length table.old ≡ 2048 → IfOk result (λ n. IfSome (R.remaining from.old) (λ bs. take n table.new ≡ take 2048 bs)) }
 {
-    let room = table.len();
-    let mut front = from.by_ref().take(room as u64);
-    let n = io::copy(&mut front, &mut Cursor::new(table))? as usize;
-    if n == room {
+    let n = fill(from, table)?;
+    if n == table.len() {
         pass_over(from)?;
     }
     Ok(at_most(n, TABLE))
 }
 
-fn say_refused<W: Write>(to: &mut W, a: Answer) -> io::Result<()> {
+fn say_refused<W: Write>(to: &mut W, a: Answer) -> io::Result<()>
+    ensures { OnOk result (Appends (W.contents to.old) (W.contents to.new) (refusal (numbers_of a).number (numbers_of a).place)) }
+{
     let six = numbers(a);
     let number = six.number;
     let place = six.place;
@@ -55,7 +81,9 @@ fn say_refused<W: Write>(to: &mut W, a: Answer) -> io::Result<()> {
 }
 
 // The number of a run's verdict; an end that is none has no digit.
-fn verdict(end: End) -> u8 {
+fn verdict(end: End) -> u8
+    ensures { result ≡ end_number end }
+{
     let End::Verdict(a) = end else {
         return u8::MAX;
     };
@@ -64,12 +92,17 @@ fn verdict(end: End) -> u8 {
 }
 
 // Writes what waits.
-fn flush<W: Write>(to: &mut W, out: &[u8], used: usize) -> io::Result<()> {
+fn flush<W: Write>(to: &mut W, out: &[u8], used: usize) -> io::Result<()>
+    ensures { OnOk result (Appends (W.contents to.old) (W.contents to.new) (take used out.now)) }
+{
     to.write_all(&out[..at_most(used, out.len())])
 }
 
 // Where the next line may begin: what waits is written where there is no room for another line.
-fn make_room<W: Write>(to: &mut W, out: &[u8], used: usize) -> io::Result<usize> {
+fn make_room<W: Write>(to: &mut W, out: &[u8], used: usize) -> io::Result<usize>
+    ensures room { IfOk result (λ n. n ≤ 63488) }
+    ensures moves { IfOk result (λ n. Moves (W.contents to.old) (take used out.now) (W.contents to.new) (take n out.now)) }
+{
     if used <= OUT - LINE {
         return Ok(used);
     }
@@ -80,19 +113,24 @@ fn make_room<W: Write>(to: &mut W, out: &[u8], used: usize) -> io::Result<usize>
 // Adds the line of one run, and hands back how much waits then.
 fn add_line(end: End, list: &[u8], out: &mut [u8], used: usize) -> usize
     requires { length list.now < 1000 }
+    ensures line { used + 3 * length list.now + 2 ≤ min 65536 (length out.old)
+        → take result out.new ≡ take used out.old ++ end_line end list.now }
+    ensures end { used ≤ 65536 → result ≡ used + 3 * length list.now + 2 }
 {
     let at = at_most(used, OUT);
     put_line(out, at, verdict(end), list)
 }
 
 // The runs of a table. Nothing says that they end, so they are counted, up to a number that no walk reaches.
-fn go_through<W: Write>(table: Table, to: &mut W) -> io::Result<()> {
+fn go_through<W: Write>(table: Table, to: &mut W) -> io::Result<()>
+    ensures { OnOk result (Appends (W.contents to.old) (W.contents to.new) (lines (2 ^ 64 - 1) (begun table))) }
+{
     let mut out = [0u8; OUT];
     let mut w = begin(table);
     let mut used = 0;
     for _ in 0..u64::MAX {
         if w.over {
-            return flush(to, &out, used);
+            break;
         }
         let at = make_room(to, &out, used)?;
         let path = w.path;
@@ -102,11 +140,14 @@ fn go_through<W: Write>(table: Table, to: &mut W) -> io::Result<()> {
         used = add_line(end, &list[..n], &mut out, at);
         w = advance(w);
     }
-    Ok(())
+    flush(to, &out, used)
 }
 
 // Reads a table, and writes a line for each run of it, or its refusal.
-pub fn list_runs<R: Read, W: Write>(from: &mut R, to: &mut W) -> io::Result<()> {
+pub fn list_runs<R: Read, W: Write>(from: &mut R, to: &mut W) -> io::Result<()>
+    ensures { OnOk result (IfSome (R.remaining from.old) (λ bs.
+        Appends (W.contents to.old) (W.contents to.new) (runs_of (2 ^ 64 - 1) bs))) }
+{
     let mut table = [0u8; TABLE];
     let n = read_input(from, &mut table)?;
     let read = read_table(&table[..n]);
