@@ -1,5 +1,5 @@
 -- A table is accepted or refused within its first 2,048 bytes.
-use Rattle.std.proofs.Common.{◌≡◌, ℕ, zero, suc, ◌+◌, ◌-◌, ◌*◌, ◌≤◌, ◌<◌, List, [], ◌∷◌, ◌⊎◌, inl, inr, arith, length, get_or, take, drop, set, min, refl, sym, ap, ◌∙◌, length-take, length-drop, length-set, get_or-set_same, take-take}
+use Rattle.std.proofs.Common.{◌≡◌, ℕ, zero, suc, ◌+◌, ◌-◌, ◌≤◌, ◌<◌, List, [], ◌∷◌, ◌⊎◌, inl, inr, arith, length, get_or, take, drop, set, min, refl, sym, ap, ◌∙◌, length-take, length-drop, length-set, get_or-set_same, take-take}
 use Rattle.std.specs.Prelude.{Bool, true, false, eqb, ltb, leb}
 use Rattle.std.proofs.Math.Seq.{take-nil}
 use Rattle.std.proofs.lemmas.Bool.{cases_lt, eqb-false, le-leb, lt-leb}
@@ -13,8 +13,8 @@ use Rattle.rules.specs.declared.table.Record.TheVariants as rec
 use Rattle.rules.specs.declared.table.Parsed.{Parsed}
 use Rattle.rules.specs.declared.table.Parsed.TheVariants.{Whole, Bad}
 use Rattle.rules.specs.Limits.{max_objects, max_operations}
-use Rattle.rules.specs.Table.{Read, refused, accepted, body_length, body_byte, whole_record, record_of, objects_fine, empty_table, with_object, with_thread, with_op, last_count, object_record, thread_record, operation_record, one_record, at_end, read_from, read_table}
-use Rattle.rules.specs.TableLaws.{body_small}
+use Rattle.rules.specs.Table.{Read, body_length, body_byte, whole_record, record_of, objects_fine, empty_table, with_object, with_thread, with_op, last_count, object_record, thread_record, operation_record, one_record, at_end, read_from, read_table}
+use Rattle.rules.proofs.TableLaws.{body_small}
 use Rattle.theorems.specs.Places.{Room}
 
 positive : (n : ℕ) → eqb n 0 ≡ false → 0 < n

@@ -1,5 +1,5 @@
 -- The lines of a walker are those of the walk, and a refusal is printed as document 01 says.
-use Rattle.std.proofs.Common.{◌≡◌, ℕ, zero, suc, ◌+◌, ◌*◌, ◌≤◌, ◌<◌, List, [], ◌∷◌, ◌++◌, ◌^◌, arith, rules, length, take, refl, sym, ap, ◌∙◌, cond}
+use Rattle.std.proofs.Common.{◌≡◌, ℕ, zero, suc, ◌≤◌, ◌<◌, List, [], ◌∷◌, ◌++◌, ◌^◌, arith, rules, length, take, refl, sym, ap, ◌∙◌, cond}
 use Rattle.std.specs.Prelude.{Bool, true, false}
 use Rattle.std.specs.Fmt as std
 use Rattle.std.proofs.lemmas.Fmt.{AppendsLastDigit, decimal_from_appends, length-decimal-le}
@@ -13,17 +13,17 @@ use Rattle.rules.specs.declared.table.TableRead.{TableRead}
 use Rattle.rules.specs.declared.world.World.{World}
 use Rattle.rules.specs.Answer.{numbers_of}
 use Rattle.rules.specs.Judge.{Verdict, step}
-use Rattle.rules.specs.JudgeLaws.{Told, judge_told}
+use Rattle.rules.proofs.JudgeLaws.{Told, judge_told}
 use Rattle.rules.specs.Table.{Read, refused, accepted, read_table, read_of}
 use Rattle.rules.specs.Turn.{start}
 use Rattle.rules.specs.Walk.{decisions, left, decision_text, verdict_digit, run_line, run_lines, decimal, refused_line, runs_table, runs_of}
-use Rattle.theorems.specs.Places.{refused-place}
-use Rattle.turns_run.specs.declared.End.{End}
+use Rattle.theorems.proofs.Places.{refused-place}
 use Rattle.turns_run.specs.Run.{ran_of}
 use Rattle.walker.specs.declared.Walker.{Walker}
 use Rattle.walker.specs.Walking.{begun, advanced}
 use Rattle.walker.specs.Stands.{Met, met, all_judged, walker_walks}
-use Rattle.listing.specs.Line.{number_digit, number_is}
+use Rattle.listing.proofs.LineLaws.{number_is}
+use Rattle.listing.specs.Line.{number_digit}
 use Rattle.listing.proofs.Front.{read_front}
 use Rattle.listing.specs.Told.{end_number, end_line, lines, refusal}
 

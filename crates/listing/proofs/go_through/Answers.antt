@@ -1,7 +1,5 @@
 -- A turn moves the line of one run from those to come to those that wait.
-use Rattle.std.proofs.Common.{◌≡◌, ℕ, zero, suc, ◌+◌, ◌-◌, ◌*◌, ◌^◌, ◌≤◌, List, [], ◌++◌, length, take, min, rules, arith, refl, sym, ap, ◌∙◌, subst, append_assoc, length-take}
-use Rattle.std.specs.Prelude.{OnOk}
-use Rattle.std.specs.Io.KnownBytes.{Appends}
+use Rattle.std.proofs.Common.{◌≡◌, ℕ, suc, ◌+◌, ◌-◌, ◌^◌, ◌≤◌, List, [], ◌++◌, length, take, min, rules, arith, sym, ap, ◌∙◌, subst, append_assoc, length-take}
 use Rattle.clocks.specs.Lists.{take_min}
 use Rattle.walker.specs.declared.Walker.{Walker}
 use Rattle.walker.specs.Walking.{advanced}

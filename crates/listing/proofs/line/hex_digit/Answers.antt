@@ -1,5 +1,5 @@
 -- `line::hex_digit` meets its contract.
-use Rattle.listing.specs.Line.{digit_is}
+use Rattle.listing.proofs.LineLaws.{digit_is}
 use Rattle.listing.proofs.line.hex_digit.Goals as goal
 
 pub returns-then-n-lt10 : goal.returns-then-n-lt10

@@ -1,5 +1,5 @@
 -- `line::put_decision` meets its contract.
-use Rattle.listing.specs.Line.{decision_is}
+use Rattle.listing.proofs.LineLaws.{decision_is}
 use borrow.Author.Rules.{rules}
 use Rattle.listing.proofs.line.put_decision.Goals as goal
 

@@ -6,8 +6,9 @@ use native.Mathlib.Omega.{arith}
 use lib.ListN.{length}
 use lib.Seq.{sets}
 use Rattle.rules.specs.Sheet.{filled, each}
-use Rattle.rules.specs.SheetLaws.{each-written}
-use Rattle.listing.specs.Line.{decision_bytes, all_filled}
+use Rattle.rules.proofs.SheetLaws.{each-written}
+use Rattle.listing.proofs.LineLaws.{all_filled}
+use Rattle.listing.specs.Line.{decision_bytes}
 use borrow.Author.Rules.{rules}
 use Rattle.listing.proofs.line.put_decisions.Goals as goal
 

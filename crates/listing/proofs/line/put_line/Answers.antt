@@ -6,7 +6,8 @@ use native.Mathlib.Omega.{arith}
 use lib.Seq.{sets}
 use Rattle.rules.specs.Sheet.{each}
 use Rattle.rules.specs.Walk.{decision_text}
-use Rattle.listing.specs.Line.{decision_bytes, line_is}
+use Rattle.listing.proofs.LineLaws.{line_is}
+use Rattle.listing.specs.Line.{decision_bytes}
 use Rattle.listing.proofs.line.put_line.Goals as goal
 
 pub returns : goal.returns
