@@ -40,9 +40,9 @@ module _ (l : List ℕ) (n i d : ℕ) (inside : i < length l) (digit : d ≡ hex
       let g : hex_value (get_or l i 0) ≤ 9 = omega arith in
       rw (drop-cons l i 0, le-ltb _ _ g, lt-ltb _ _ large) at so_far
 
-  read-on : (w : ℕ) → w ≡ d → d ≤ 9 → n ≤ 99999999 → number_from (n * 10 + w) (drop (i + 1) l) ≡ number_of l
+  read_on : (w : ℕ) → w ≡ d → d ≤ 9 → n ≤ 99999999 → number_from (n * 10 + w) (drop (i + 1) l) ≡ number_of l
   unfolding number_from
-  read-on w e h small =
+  read_on w e h small =
       let g : hex_value (get_or l i 0) ≤ 9 = omega arith in
       rw (e, digit, add-one) (rw (drop-cons l i 0, le-ltb _ _ g, le-ltb _ _ small) at so_far)
 
@@ -59,7 +59,7 @@ pub returns-then-n-gt99999999 : goal.returns-then-n-gt99999999
 returns-then-n-gt99999999 c = too_large _ _ _ _ c.loop-i-test.true c.hex_digit-d.ensures c.loop-i.invariant.1 c.if-d-gt9.false c.if-n-gt99999999.true
 
 pub loop-i-preserved : goal.loop-i-preserved
-loop-i-preserved c = (search rules, read-on _ _ _ _ c.loop-i-test.true c.hex_digit-d.ensures c.loop-i.invariant.1 _ c.wide.ensures c.if-d-gt9.false c.if-n-gt99999999.false)
+loop-i-preserved c = (search rules, read_on _ _ _ _ c.loop-i-test.true c.hex_digit-d.ensures c.loop-i.invariant.1 _ c.wide.ensures c.if-d-gt9.false c.if-n-gt99999999.false)
 
 pub returns : goal.returns
 returns c = over _ _ _ c.loop-i-test.false c.loop-i.invariant.1
