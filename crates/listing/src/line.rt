@@ -45,8 +45,8 @@ fn number_digit(n: u8) -> u8
 // The line stands at `at`; its end is handed back.
 pub fn put_line(out: &mut [u8], at: usize, number: u8, list: &[u8]) -> usize
     requires { (at < 80000) × (length list.now < 1000) }
-    ensures out_after { out.new ≡ sets out.old at (number_digit number ∷ decision_text list.now) }
-    ensures value { result ≡ at + 3 * length list.now + 2 }
+    ensures written { out.new ≡ sets out.old at (number_digit number ∷ decision_text list.now) }
+    ensures end { result ≡ at + 3 * length list.now + 2 }
 {
     put(out, at, number_digit(number));
     put_decisions(out, at + 1, list);

@@ -1,8 +1,8 @@
 // Reads a table's bytes from standard input, and prints a line for each of its runs.
 #![tactic(auto)]
 
-use libc::{STDIN_FILENO, STDOUT_FILENO};
+use std::io;
 
-fn main() {
-    listing::list_runs(STDIN_FILENO, STDOUT_FILENO);
+fn main(rt: HostRuntime) -> io::Result<()> {
+    listing::list_runs(&mut rt.stdin(), &mut rt.stdout())
 }

@@ -1,22 +1,21 @@
 // The runs of the stored tables, one after another.
 #![tactic(auto)]
 
-use libc::STDOUT_FILENO;
+use std::fs::File;
+use std::io;
+use std::rt::Files;
 
-fn list(name: &[u8]) {
-    let fd = os::open_read(name);
-    if fd < 0 {
-        io::write_all(STDOUT_FILENO, b"a file cannot be read\n");
-        return;
-    }
-    listing::list_runs(fd, STDOUT_FILENO);
-    libc::close(fd);
+fn list<R: Files + Print>(rt: &R, name: &str) -> io::Result<()> {
+    let Ok(mut file) = File::open(rt, name) else {
+        return println!(rt; "a file cannot be read");
+    };
+    listing::list_runs(&mut file, &mut io::writer(rt))
 }
 
-fn main() {
-    list(b"refused");
-    list(b"empty");
-    list(b"several");
-    list(b"many");
-    list(b"long");
+fn main(rt: HostRuntime) -> io::Result<()> {
+    list(&rt, "refused")?;
+    list(&rt, "empty")?;
+    list(&rt, "several")?;
+    list(&rt, "many")?;
+    list(&rt, "long")
 }

@@ -1,6 +1,6 @@
 -- What the contracts of `case` cite.
-use Rattle.std.specs.Prelude.{ℕ, ◌+◌, ◌-◌, ◌≡◌, Bool, true, false, cond, List, [], ◌∷◌, eqb, ltb, length, take, drop}
-use Rattle.bytes.specs.Bytes.{index_of, slice}
+use Rattle.std.specs.Prelude.{ℕ, ◌+◌, ◌-◌, ◌≡◌, Bool, true, false, cond, List, [], ◌∷◌, ◌==◌, eqb, ltb, length, take, drop}
+use Rattle.std.specs.List.{position_or_len}
 use Rattle.rules.specs.declared.answer.Numbers.{Numbers}
 use Rattle.rules.specs.Answer.{numbers_of}
 use Rattle.rules.specs.Judge.{Given, judge_of}
@@ -18,7 +18,7 @@ is_number Bad n = false
 
 -- where the word that begins at `from` ends: at the next space, or with the text
 unfoldable pub word_end : List ℕ → ℕ → ℕ
-word_end text from = from + index_of 32 (slice from (length text) text)
+word_end text from = from + position_or_len (λ b. b == 32) (drop from text)
 
 -- the words from `from` on are these numbers, with one space between two, and nothing else
 unfoldable pub answer_from : List ℕ → ℕ → List ℕ → Bool

@@ -1,6 +1,7 @@
 // One stored case, a line `table|list|room|answer|bytes`, with `first|` or `next|` before it if it is not the judge's: the call is made on a buffer
 // of that room, and what it gives is compared.
-ghost use Rattle.std.specs.Prelude.{◌≡◌, true, ◌≤◌, length, replicate};
+ghost use Rattle.std.specs.Prelude.{◌≡◌, true, ◌+◌, ◌≤◌, ◌==◌, drop, length, replicate};
+ghost use Rattle.std.specs.List.{position_or_len};
 ghost use Rattle.vectors.specs.Text.{number_of};
 ghost use Rattle.vectors.specs.Case.{is_number, answer_from, in_order, given_of, Agreed};
 
@@ -46,6 +47,21 @@ fn is_number(text: &[u8], n: usize) -> bool
     }
 }
 
+// Where the byte stands first from `from` on, or the text's length.
+fn find(text: &[u8], from: usize, b: u8) -> usize
+    requires { from ≤ length text.now }
+    ensures value { result ≡ from + position_or_len (λ x. x == b) (drop from text.now) }
+    ensures bound { (from ≤ result) × (result ≤ length text.now) }
+{
+    let rest = &text[from..];
+    for i in 0..rest.len() {
+        if rest[i] == b {
+            return from + i;
+        }
+    }
+    text.len()
+}
+
 // The numbers stand with one space between two, and nothing else.
 fn is_answer(text: &[u8], six: [usize; 6]) -> bool
     ensures { result ≡ answer_from text.now 0 six }
@@ -55,7 +71,7 @@ fn is_answer(text: &[u8], six: [usize; 6]) -> bool
         if text.len() < from {
             return false;
         }
-        let end = bytes::scan::find(text, from, text.len(), b' ');
+        let end = find(text, from, b' ');
         if !is_number(&text[from..end], six[k]) {
             return false;
         }
@@ -65,8 +81,8 @@ fn is_answer(text: &[u8], six: [usize; 6]) -> bool
 }
 
 fn filled(b: u8) -> [u8; ROOM]
-    ensures value { 2048 ≡ length result }
-    ensures value_2 { result ≡ replicate 2048 b }
+    ensures length { 2048 ≡ length result }
+    ensures value { result ≡ replicate 2048 b }
 {
     [b; ROOM]
 }
@@ -91,11 +107,11 @@ fn gives(
     told: &[u8],
 ) -> bool
     ensures agreed { result ≡ true → Agreed call table.now list.now buffer.old answer.now told.now }
-    ensures value { Agreed call table.now list.now buffer.old answer.now told.now → result ≡ true }
+    ensures agrees { Agreed call table.now list.now buffer.old answer.now told.now → result ≡ true }
 {
     let a = made(call, table, list, buffer);
     let six = in_order(numbers(a));
-    is_answer(answer, six) && check::same(buffer, told)
+    is_answer(answer, six) && *buffer == *told
 }
 
 // The bytes are put over the fill, so one comparison shows what was written and what was not.
@@ -137,7 +153,7 @@ fn bar(line: &[u8], from: usize) -> usize
     requires { from ≤ length line.now }
     ensures { (from ≤ result) × (result ≤ length line.now) }
 {
-    bytes::scan::find(line, from, line.len(), b'|')
+    find(line, from, b'|')
 }
 
 // The fields after the call's name; one that lacks is no case that could agree.
@@ -176,7 +192,7 @@ fn begins_with(line: &[u8], name: &[u8]) -> bool
     if line.len() < n {
         return false;
     }
-    check::same(&line[..n], name)
+    &line[..n] == name
 }
 
 pub fn agrees(line: &[u8]) -> bool {

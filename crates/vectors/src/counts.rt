@@ -1,5 +1,5 @@
 // What is known of the lines so far, and how it is told.
-use libc::STDOUT_FILENO;
+use std::io;
 
 #[derive(Drop)]
 pub struct Tally {
@@ -36,29 +36,26 @@ pub fn passed(t: Tally) -> Tally {
 }
 
 // The line is over, and was a case.
-pub fn counted(t: Tally, agrees: bool) -> Tally {
+pub fn counted<P: Print>(rt: &P, t: Tally, agrees: bool) -> io::Result<Tally> {
     let lines = one_more(t.lines);
     if !agrees {
-        say_case(lines);
+        say_case(rt, lines)?;
     }
     let agreed = if agrees { one_more(t.agreed) } else { t.agreed };
-    Tally {
+    Ok(Tally {
         length: 0,
         lines: lines,
         cases: one_more(t.cases),
         agreed: agreed,
-    }
+    })
 }
 
-fn say_case(n: u64) {
-    io::write_all(STDOUT_FILENO, b"case ");
-    io::print_decimal(STDOUT_FILENO, n);
-    io::write_all(STDOUT_FILENO, b" disagrees\n");
+fn say_case<P: Print>(rt: &P, n: u64) -> io::Result<()> {
+    println!(rt; "case {n} disagrees")
 }
 
-pub fn say(t: Tally) {
-    io::print_decimal(STDOUT_FILENO, t.agreed);
-    io::write_all(STDOUT_FILENO, b" of ");
-    io::print_decimal(STDOUT_FILENO, t.cases);
-    io::write_all(STDOUT_FILENO, b" cases agree\n");
+pub fn say<P: Print>(rt: &P, t: Tally) -> io::Result<()> {
+    let agreed = t.agreed;
+    let cases = t.cases;
+    println!(rt; "{agreed} of {cases} cases agree")
 }

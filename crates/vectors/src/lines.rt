@@ -1,20 +1,21 @@
 // Bytes are gathered into lines, and each line is counted.
 use crate::case::agrees;
 use crate::counts::{Tally, counted, passed};
+use std::io;
 
 // The line is over: empty, a comment, or a case. One that did not fit is a case that disagrees.
-fn end_line(line: &[u8], t: Tally) -> Tally {
+fn end_line<P: Print>(rt: &P, line: &[u8], t: Tally) -> io::Result<Tally> {
     let n = t.length;
     if n == 0 {
-        return passed(t);
+        return Ok(passed(t));
     }
     if line.len() < n {
-        return counted(t, false);
+        return counted(rt, t, false);
     }
     if line[0] == b'#' {
-        return passed(t);
+        return Ok(passed(t));
     }
-    counted(t, agrees(&line[..n]))
+    counted(rt, t, agrees(&line[..n]))
 }
 
 // A byte past the end of the buffer is dropped, and the length says that the line did not fit.
@@ -35,23 +36,27 @@ fn keep(b: u8, line: &mut [u8], t: Tally) -> Tally {
     }
 }
 
-fn take_byte(b: u8, line: &mut [u8], t: Tally) -> Tally {
+fn take_byte<P: Print>(rt: &P, b: u8, line: &mut [u8], t: Tally) -> io::Result<Tally> {
     if b == b'\n' {
-        end_line(line, t)
+        end_line(rt, line, t)
     } else {
-        keep(b, line, t)
+        Ok(keep(b, line, t))
     }
 }
 
-pub fn take_bytes(piece: &[u8], line: &mut [u8], t: Tally) -> Tally {
+pub fn take_bytes<P: Print>(rt: &P, piece: &[u8], line: &mut [u8], t: Tally) -> io::Result<Tally> {
     let mut now = t;
     for i in 0..piece.len() {
-        now = take_byte(piece[i], line, now);
+        now = take_byte(rt, piece[i], line, now)?;
     }
-    now
+    Ok(now)
 }
 
 // The last line may lack its end.
-pub fn last(line: &[u8], t: Tally) -> Tally {
-    if t.length == 0 { t } else { end_line(line, t) }
+pub fn last<P: Print>(rt: &P, line: &[u8], t: Tally) -> io::Result<Tally> {
+    if t.length == 0 {
+        Ok(t)
+    } else {
+        end_line(rt, line, t)
+    }
 }

@@ -7,10 +7,14 @@ mod lines;
 mod text;
 
 use counts::Tally;
-use libc::STDOUT_FILENO;
+use std::fs::File;
+use std::io;
+use std::io::Read;
 
 // The largest table, list and sheet take about 6,100 bytes in one line.
 const LINE_ROOM: usize = 8192;
+// As many bytes are read at once.
+const PIECE: usize = 4096;
 
 // What a read came to.
 #[derive(Drop)]
@@ -21,56 +25,52 @@ enum Piece {
 }
 
 // Reads once, and takes the bytes that came.
-fn take_piece(fd: i32, line: &mut [u8], t: Tally) -> Piece {
-    let mut piece = io::buffer();
-    let got = libc::read(fd, &mut piece);
-    if got < 0 {
-        return Piece::Failed;
+fn take_piece<P: Print, R: Read>(
+    rt: &P,
+    file: &mut R,
+    line: &mut [u8],
+    t: Tally,
+) -> io::Result<Piece> {
+    let mut piece = [0u8; PIECE];
+    let Ok(n) = file.read(&mut piece) else {
+        return Ok(Piece::Failed);
+    };
+    if n == 0 {
+        return Ok(Piece::End(t));
     }
-    if got == 0 {
-        return Piece::End(t);
-    }
-    let n = io::count(got, &piece);
-    Piece::Taken(lines::take_bytes(&piece[..n], line, t))
+    Ok(Piece::Taken(lines::take_bytes(rt, &piece[..n], line, t)?))
 }
 
-// Nothing says that a file ends, so the turns are counted down, from a number that no run uses up.
-fn take_file(fd: i32, line: &mut [u8]) -> Piece {
+// Nothing says that a file ends, so the turns are counted, up to a number that no run reaches.
+fn take_file<P: Print, R: Read>(rt: &P, file: &mut R, line: &mut [u8]) -> io::Result<Piece> {
     let mut t = counts::none();
-    let mut turns = u64::MAX;
-    while turns > 0 {
-        match take_piece(fd, line, t) {
+    for _ in 0..u64::MAX {
+        match take_piece(rt, file, line, t)? {
             Piece::Taken(more) => {
                 t = more;
             }
             Piece::End(all) => {
-                return Piece::End(all);
+                return Ok(Piece::End(all));
             }
             Piece::Failed => {
-                return Piece::Failed;
+                return Ok(Piece::Failed);
             }
         }
-        turns -= 1;
     }
-    Piece::Failed
+    Ok(Piece::Failed)
 }
 
-fn say_unread() {
-    io::write_all(STDOUT_FILENO, b"the file cases cannot be read\n");
+fn say_unread<P: Print>(rt: &P) -> io::Result<()> {
+    println!(rt; "the file cases cannot be read")
 }
 
-fn main() {
-    let fd = os::open_read(b"cases");
-    if fd < 0 {
-        say_unread();
-        return;
-    }
-    let mut line = [0u8; LINE_ROOM];
-    let end = take_file(fd, &mut line);
-    libc::close(fd);
-    let Piece::End(t) = end else {
-        say_unread();
-        return;
+fn main(rt: HostRuntime) -> io::Result<()> {
+    let Ok(mut file) = File::open(&rt, "cases") else {
+        return say_unread(&rt);
     };
-    counts::say(lines::last(&line, t));
+    let mut line = [0u8; LINE_ROOM];
+    let Piece::End(t) = take_file(&rt, &mut file, &mut line)? else {
+        return say_unread(&rt);
+    };
+    counts::say(&rt, lines::last(&rt, &line, t)?)
 }

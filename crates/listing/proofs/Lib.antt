@@ -1,0 +1,4 @@
+pub mod Front
+pub mod LineLaws
+pub mod Pending
+pub mod Told
