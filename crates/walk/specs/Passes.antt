@@ -3,13 +3,12 @@ use Rattle.std.specs.Prelude.{◌≡◌, refl, ◌⊎◌, true, false, List, len
 use Rattle.std.proofs.Math.Path.{sym}
 use Rattle.std.proofs.Common.{◌∙◌, ap, subst, inl, inr, arith, lt-ltb, le-ltb}
 use Rattle.std.proofs.lemmas.Bool.{false≢true}
-use Rattle.std.proofs.Math.Option.{some}
 use Prim.Native.Nat.{ℕ, suc, ◌+◌, ◌-◌, ◌≤◌, ◌<◌}
 use Rattle.std.proofs.Math.Numerals.{add-one}
 use Rattle.lists.specs.Rules.{refused, wants}
 use Rattle.lists.specs.Judge.{Judged}
 use Rattle.lists.specs.Greedy.{seek, larger}
-use Rattle.lists.specs.Next.{Pivot, at, pass}
+use Rattle.lists.specs.Next.{Pivot, pass}
 use Rattle.lists.proofs.CodeLaws.{pass_end, pass-refused, pass-done, pass-wants, judge_end_lem, judge-refused, judge_last, judge_surplus, judge-wants}
 use Rattle.rules.specs.declared.answer.Answer.{Answer}
 use Rattle.rules.specs.declared.table.Table.{Table}

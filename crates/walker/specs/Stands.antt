@@ -19,7 +19,7 @@ use Rattle.lists.proofs.Judge.{judge-complete}
 use Rattle.lists.specs.Greedy.{larger}
 use Rattle.lists.proofs.Greedy.{larger-allowed, smallest-allowed}
 use Rattle.lists.proofs.CodeLaws.{seek_hit, raised-smallest}
-use Rattle.lists.specs.Next.{raised, later, first_of, next_of}
+use Rattle.lists.specs.Next.{raised, first_of, next_of}
 use Rattle.lists.proofs.Next.{next_of-later}
 use Rattle.lists.specs.Walk.{walk_from, walk_on, walk}
 use Rattle.rules.specs.declared.table.Table.{Table}

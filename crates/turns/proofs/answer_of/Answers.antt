@@ -1,7 +1,6 @@
 -- `answer_of` meets its contract, an end at a time.
 use mathlib.Core.Path.{sym, ap}
 use Rattle.turns.specs.Start.{answer_of}
-use borrow.Author.Rules.{rules}
 use Rattle.turns.proofs.answer_of.Goals as goal
 
 pub returns-in-NotAllowed : goal.returns-in-NotAllowed

@@ -1,7 +1,6 @@
 -- `judge` meets its contract: a refused table's answer, or the judgement of the table.
 use mathlib.Core.Path.{◌∙◌}
 use Rattle.turns.specs.Start.{judged_refused, judged_accepted}
-use borrow.Author.Rules.{rules}
 use Rattle.turns.proofs.judge.Goals as goal
 
 pub returns-in_default : goal.returns-in_default

@@ -14,7 +14,6 @@ use Rattle.rules.specs.Sheet.{sheet_length}
 use Rattle.turns_run.specs.declared.Ran.{Ran}
 use Rattle.turns_run.specs.Run.{ran_of}
 use Rattle.turns.specs.Start.{showing, shows, judged_short, judged_shown}
-use borrow.Author.Rules.{rules}
 use Rattle.turns.proofs.judged.Goals as goal
 
 pub returns-then-sheet-needed : goal.returns-then-sheet-needed

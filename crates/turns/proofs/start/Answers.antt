@@ -1,7 +1,6 @@
 -- `start` meets its contract.
 use Rattle.rules.specs.declared.world.Asked.TheVariants.{Nobody}
 use Rattle.rules.specs.Turn.{start}
-use borrow.Author.Rules.{rules}
 use Rattle.turns.proofs.start.Goals as goal
 
 pub returns : goal.returns

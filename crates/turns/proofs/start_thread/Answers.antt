@@ -2,7 +2,6 @@
 use mathlib.Core.Path.{◌∙◌}
 use borrow.Author.Tests.{lt-ltb, le-ltb}
 use Rattle.rules.specs.Turn.{start_thread}
-use borrow.Author.Rules.{rules}
 use Rattle.turns.proofs.start_thread.Goals as goal
 
 pub returns-then-k-n : goal.returns-then-k-n

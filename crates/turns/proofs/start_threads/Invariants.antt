@@ -1,15 +1,11 @@
 -- `start_threads` meets its contract: it is a pass over absent threads.
-use mathlib.Core.Path.{◌≡◌, refl, ◌∙◌, ap}
-use mathlib.Core.List.{List}
-use Prim.Native.Nat.{◌≤◌, ◌-◌}
-use native.Mathlib.Omega.{arith}
-use lib.ListN.{length, replicate, length-replicate}
-use Rattle.clocks.specs.Pass.{pass_from, passed, turned, ended}
-use Rattle.rules.specs.declared.thread.Thread.{Thread}
+use mathlib.Core.Path.{◌≡◌}
+use Prim.Native.Nat.{◌≤◌}
+use lib.ListN.{replicate}
+use Rattle.clocks.specs.Pass.{passed}
 use Rattle.rules.specs.Ground.{absent}
 use Rattle.rules.specs.Turn.{start_thread}
 use Rattle.clocks.specs.Clock.{max_threads}
-use borrow.Author.Rules.{rules}
 use Rattle.turns.proofs.start_threads.Given as goal
 
 abbrev pub invariant-loop-k : goal.invariant-loop-k

@@ -4,7 +4,6 @@ use Rattle.rules.specs.declared.answer.Spot.{Spot}
 use Rattle.rules.specs.declared.answer.Answer.TheVariants.{Deadlock}
 use Rattle.turns_steps.specs.declared.Acting.TheVariants.{Done}
 use Rattle.turns_steps.specs.Step.{after}
-use borrow.Author.Rules.{rules}
 use Rattle.turns_after.proofs.after.Goals as goal
 
 pub returns-then-all_ended : goal.returns-then-all_ended

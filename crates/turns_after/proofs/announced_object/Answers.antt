@@ -1,7 +1,6 @@
 -- `announced_object` meets its contract, by the phase.
 use mathlib.Core.Path.{sym, ap}
 use Rattle.rules.specs.Turn.{announced_object}
-use borrow.Author.Rules.{rules}
 use Rattle.turns_after.proofs.announced_object.Goals as goal
 
 pub returns-in-Nothing : goal.returns-in-Nothing

@@ -1,14 +1,8 @@
 -- `any_runnable` meets its contract. The loop's invariant: it is what is found from the k-th thread on.
-use mathlib.Core.Path.{◌≡◌, refl, sym, ◌∙◌, ap}
-use mathlib.Core.Bool.{true, false}
-use mathlib.Core.List.{List}
-use Prim.Native.Nat.{◌≤◌, ◌-◌}
-use native.Mathlib.Omega.{arith}
-use lib.ListN.{length, drop, drop_of_length-le}
-use Rattle.rules.specs.declared.thread.Thread.{Thread}
+use mathlib.Core.Path.{◌≡◌}
+use Prim.Native.Nat.{◌≤◌}
+use lib.ListN.{length, drop}
 use Rattle.rules.specs.Turn.{any_runnable}
-use Rattle.rules.proofs.AfterLaws.{runnable_at}
-use borrow.Author.Rules.{rules}
 use Rattle.turns_after.proofs.any_runnable.Given as goal
 
 abbrev pub invariant-loop-k : goal.invariant-loop-k

@@ -1,9 +1,8 @@
 -- `leak_check` meets its contract. The loop's invariant: it is what is found from the k-th object on.
 use mathlib.Core.Path.{◌≡◌, refl, sym, ◌∙◌, ap}
 use mathlib.Core.List.{List}
-use Prim.Native.Nat.{◌≤◌, ◌-◌}
 use native.Mathlib.Omega.{arith}
-use lib.ListN.{length, drop, drop_of_length-le}
+use lib.ListN.{length, drop_of_length-le}
 use Rattle.rules.specs.declared.object.Entry.{Entry}
 use Rattle.rules.specs.Turn.{leak_check}
 use Rattle.rules.proofs.AfterLaws.{leak_passed, leak_here}

@@ -3,7 +3,6 @@ use mathlib.Core.Path.{◌∙◌, ap}
 use lib.Dec.{eqb}
 use Rattle.rules.specs.declared.table.Made.{Made}
 use Rattle.rules.specs.Table.{kind_number, is_kind}
-use borrow.Author.Rules.{rules}
 use Rattle.turns_fine.proofs.is_kind.Goals as goal
 
 pub returns : goal.returns

@@ -1,7 +1,6 @@
 -- `mutex_fine` meets its contract.
 use mathlib.Core.Path.{sym, ◌∙◌, ap}
 use Rattle.rules.specs.Table.{mutex_fine}
-use borrow.Author.Rules.{rules}
 use Rattle.turns_fine.proofs.mutex_fine.Goals as goal
 
 pub returns-in-On : goal.returns-in-On

@@ -1,7 +1,6 @@
 -- `objects_fine` meets its contract.
 use mathlib.Core.Path.{sym, ◌∙◌, ap}
 use Rattle.rules.specs.Table.{is_kind, mutex_fine, objects_fine}
-use borrow.Author.Rules.{rules}
 use Rattle.turns_fine.proofs.objects_fine.Goals as goal
 
 pub returns-then-is_kind : goal.returns-then-is_kind

@@ -4,7 +4,6 @@ use Rattle.rules.specs.declared.condvar.Wait.TheVariants.{Nowhere}
 use Rattle.rules.specs.declared.thread.Thread.{Thread}
 use Rattle.rules.specs.Ground.{with_dependence}
 use Rattle.turns_steps.specs.Loud.{one_more}
-use borrow.Author.Rules.{rules}
 use Rattle.turns_onward.proofs.after_effect.Goals as goal
 
 pub returns-in-Begins : goal.returns-in-Begins

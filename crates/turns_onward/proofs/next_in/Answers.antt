@@ -4,7 +4,6 @@ use Prim.Native.Nat.{ℕ}
 use Rattle.turns_steps.specs.declared.Move.TheVariants.{Goes}
 use Rattle.turns_steps.specs.declared.Acting.TheVariants.{Moves}
 use Rattle.turns_steps.specs.Loud.{next_of}
-use borrow.Author.Rules.{rules}
 use Rattle.turns_onward.proofs.next_in.Goals as goal
 
 pub returns-in-Begins : goal.returns-in-Begins

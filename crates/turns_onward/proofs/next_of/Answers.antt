@@ -1,5 +1,4 @@
 -- `next_of` meets its contract.
-use borrow.Author.Rules.{rules}
 use Rattle.turns_onward.proofs.next_of.Goals as goal
 
 pub returns-in-On : goal.returns-in-On

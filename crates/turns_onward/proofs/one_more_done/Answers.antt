@@ -1,7 +1,6 @@
 -- `one_more_done` meets its contract.
 use mathlib.Core.Path.{ap}
 use Rattle.rules.specs.Ground.{with_position, with_answer}
-use borrow.Author.Rules.{rules}
 use Rattle.turns_onward.proofs.one_more_done.Goals as goal
 
 pub returns-in-Kept : goal.returns-in-Kept

@@ -3,7 +3,6 @@ use mathlib.Core.Path.{◌∙◌, ap}
 use Rattle.clocks.specs.declared.thread.ThreadId.{ThreadId}
 use Rattle.turns_steps.specs.declared.Acting.TheVariants.{InEffect}
 use Rattle.turns_steps.specs.Loud.{verdict_or, outcome}
-use borrow.Author.Rules.{rules}
 use Rattle.turns_onward.proofs.outcome.Goals as goal
 
 pub returns : goal.returns

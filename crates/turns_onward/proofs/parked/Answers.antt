@@ -5,7 +5,6 @@ use Rattle.rules.specs.declared.thread.Thread.{Thread}
 use Rattle.rules.specs.declared.thread.Phase.TheVariants.{Parked, Retaking}
 use Rattle.rules.specs.Ground.{with_phase}
 use Rattle.turns_steps.specs.Loud.{parked}
-use borrow.Author.Rules.{rules}
 use Rattle.turns_onward.proofs.parked.Goals as goal
 
 pub returns-then-has_unpark : goal.returns-then-has_unpark

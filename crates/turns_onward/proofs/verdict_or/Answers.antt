@@ -2,7 +2,6 @@
 use mathlib.Core.Path.{sym, ap}
 use Rattle.rules.specs.declared.object.Ending.{Ending}
 use Rattle.turns_steps.specs.Loud.{verdict_or}
-use borrow.Author.Rules.{rules}
 use Rattle.turns_onward.proofs.verdict_or.Goals as goal
 
 pub returns-in-Fine : goal.returns-in-Fine

@@ -3,7 +3,6 @@ use mathlib.Core.Path.{◌∙◌, ap}
 use Rattle.rules.specs.declared.object.Action.{Action}
 use Rattle.rules.specs.declared.thread.Phase.TheVariants.{Announced}
 use Rattle.rules.specs.Object.{announced}
-use borrow.Author.Rules.{rules}
 use Rattle.turns_quiet.proofs.announced.Goals as goal
 
 pub returns : goal.returns

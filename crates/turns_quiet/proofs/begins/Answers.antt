@@ -7,7 +7,6 @@ use Rattle.turns_steps.specs.declared.Move.TheVariants.{Goes}
 use Rattle.turns_steps.specs.declared.Acting.TheVariants.{Moves}
 use Rattle.turns_steps.specs.declared.Quiet.{Quiet}
 use Rattle.turns_steps.specs.Quiet.{retaken_on, over, begins}
-use borrow.Author.Rules.{rules}
 use Rattle.turns_quiet.proofs.begins.Goals as goal
 
 pub returns-in-Nothing : goal.returns-in-Nothing

@@ -4,7 +4,6 @@ use Rattle.rules.specs.declared.thread.Thread.{Thread}
 use Rattle.rules.specs.declared.thread.Phase.TheVariants.{Nothing}
 use Rattle.rules.specs.Ground.{with_phase}
 use Rattle.turns_steps.specs.Quiet.{over, goes_on}
-use borrow.Author.Rules.{rules}
 use Rattle.turns_quiet.proofs.goes_on.Goals as goal
 
 pub returns-then-ask : goal.returns-then-ask

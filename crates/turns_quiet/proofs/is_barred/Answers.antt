@@ -2,7 +2,6 @@
 use mathlib.Core.Path.{◌∙◌}
 use Rattle.rules.specs.Effect.{is_disabled}
 use Rattle.turns_steps.specs.Quiet.{is_barred}
-use borrow.Author.Rules.{rules}
 use Rattle.turns_quiet.proofs.is_barred.Goals as goal
 
 pub returns-then-begun : goal.returns-then-begun

@@ -2,7 +2,6 @@
 use mathlib.Core.Path.{sym, ◌∙◌, ap}
 use Rattle.turns_steps.specs.declared.Move.{Move}
 use Rattle.turns_steps.specs.Quiet.{is_quiet}
-use borrow.Author.Rules.{rules}
 use Rattle.turns_quiet.proofs.is_quiet.Goals as goal
 
 pub returns-in-Goes : goal.returns-in-Goes

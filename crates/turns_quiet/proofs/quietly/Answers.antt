@@ -5,7 +5,6 @@ use Rattle.rules.specs.declared.world.Asked.TheVariants.{Nobody}
 use Rattle.turns_steps.specs.declared.Move.{Move}
 use Rattle.turns_steps.specs.Quiet.{begins, over, quietly}
 use Rattle.rules.specs.declared.condvar.Wait.{Wait}
-use borrow.Author.Rules.{rules}
 use Rattle.turns_quiet.proofs.quietly.Goals as goal
 
 pub returns-in-Begins : goal.returns-in-Begins

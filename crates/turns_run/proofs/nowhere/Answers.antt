@@ -4,7 +4,6 @@ use Rattle.rules.specs.declared.world.Asked.TheVariants.{Nobody}
 use Rattle.turns_run.specs.Run.{nowhere}
 use Rattle.clocks.specs.Clock.{max_threads}
 use Rattle.rules.specs.Limits.{max_objects}
-use borrow.Author.Rules.{rules}
 use Rattle.turns_run.proofs.nowhere.Goals as goal
 
 pub returns : goal.returns

@@ -1,18 +1,14 @@
 -- `run` meets its contract: what is left of the list's judgement stays the same from step to step.
 use mathlib.Core.Path.{◌≡◌, refl, sym, ◌∙◌, ap, subst}
 use mathlib.Core.Bool.{Bool, true, false}
-use mathlib.Core.List.{List, [], ◌∷◌}
-use mathlib.Core.Logic.{inl, inr}
-use Prim.Native.Nat.{ℕ, ◌+◌, ◌-◌, ◌*◌, ◌≤◌, ◌<◌}
+use mathlib.Core.List.{List}
+use Prim.Native.Nat.{ℕ, ◌≤◌, ◌<◌}
 use native.Mathlib.Omega.{arith}
 use lib.Dec.{ltb}
-use lib.ListN.{length, get_or, set, length-set, length-map, get_or-eq_default}
+use lib.ListN.{length, get_or, set, length-set, get_or-eq_default}
 use lib.Seq.{set-get_or, set_out}
-use borrow.Author.Tests.{not-true, not-false}
 use mir.Syntax.{w8}
-use denote.Enum.Declared.{tag_of}
-use types.Run.{OneOf}
-use borrow.Author.Rules.{rules, elem_Fits}
+use borrow.Author.Rules.{elem_Fits}
 use Rattle.clocks.specs.Clock.{max_threads}
 use Rattle.clocks.specs.Lists.{get_or-within}
 use Rattle.clocks.specs.declared.thread.ThreadId.{ThreadId}
@@ -21,7 +17,6 @@ use Rattle.rules.specs.declared.notify.State.{State as NotifyState}
 use Rattle.rules.specs.declared.object.Entry.{Entry}
 use Rattle.rules.specs.declared.object.Ending.{Ending}
 use Rattle.rules.specs.declared.object.Ending.TheVariants as ending
-use Rattle.rules.specs.contracts.object.Ending as EndingTag
 use Rattle.rules.specs.declared.thread.Answered.{Answered}
 use Rattle.rules.specs.declared.thread.Answered.TheVariants.{Kept}
 use Rattle.rules.specs.declared.thread.Thread.{Thread}

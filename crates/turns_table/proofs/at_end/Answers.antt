@@ -2,7 +2,6 @@
 use mathlib.Core.Path.{◌∙◌}
 use borrow.Author.Tests.{eq-eqb, ne_eqb}
 use Rattle.rules.specs.Table.{at_end}
-use borrow.Author.Rules.{rules}
 use Rattle.turns_table.proofs.at_end.Goals as goal
 
 pub returns-then-table-eq0 : goal.returns-then-table-eq0

@@ -7,7 +7,6 @@ use Rattle.clocks.specs.Clock.{max_threads}
 use Rattle.rules.specs.Limits.{max_objects, op_places}
 use Rattle.rules.specs.Object.{no_object}
 use Rattle.rules.specs.Table.{empty_table}
-use borrow.Author.Rules.{rules}
 use Rattle.turns_table.proofs.empty_table.Goals as goal
 
 pub returns : goal.returns

@@ -1,14 +1,11 @@
 -- `read_table` meets its contract. The loop's invariant: the whole table comes to what the rest from `at` on comes to.
 use mathlib.Core.Path.{◌≡◌, refl, sym, ◌∙◌, ap}
 use mathlib.Core.List.{List}
-use Prim.Native.Nat.{ℕ, ◌+◌, ◌-◌, ◌≤◌, ◌<◌}
+use Prim.Native.Nat.{ℕ, ◌+◌, ◌<◌}
 use native.Mathlib.Omega.{arith}
 use lib.ListN.{length, get_or, drop}
-use borrow.Author.Tests.{lt-ltb, le-ltb, eq-eqb, ne_eqb, not-true, not-false}
-use Rattle.clocks.specs.Clock.{max_threads}
+use borrow.Author.Tests.{lt-ltb, le-ltb, eq-eqb, ne_eqb}
 use Rattle.rules.specs.declared.answer.Answer.{Answer}
-use Rattle.rules.specs.declared.table.Made.{Made}
-use Rattle.rules.specs.declared.table.Op.{Op}
 use Rattle.rules.specs.declared.table.Parsed.{Parsed}
 use Rattle.rules.specs.declared.table.Parsed.TheVariants.{Whole, Bad}
 use Rattle.rules.specs.declared.table.Record.TheVariants as rec

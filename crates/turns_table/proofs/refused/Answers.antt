@@ -2,7 +2,6 @@
 use mathlib.Core.Path.{ap}
 use Rattle.rules.specs.declared.table.Table.{Table}
 use Rattle.rules.specs.declared.table.Taken.TheVariants.{Refused}
-use borrow.Author.Rules.{rules}
 use Rattle.turns_table.proofs.refused.Goals as goal
 
 pub returns : goal.returns

@@ -1,5 +1,5 @@
 -- `complete` meets its contract: a decision more is Completable still, its number is smaller, and what it comes to is what the rest comes to.
-use Rattle.std.proofs.Common.{◌<◌, arith}
+use Rattle.std.proofs.Common.{arith}
 use Rattle.walk.specs.Says.{least}
 use Rattle.walk.specs.Completing.{extended_ready, extended_less, advanced_last, advanced_on}
 use Rattle.walk.proofs.+complete.Goals as goal

@@ -1,6 +1,5 @@
 -- `walk::better` meets its contract.
 use Rattle.walk.specs.Passes.{better_found, better-kept}
-use borrow.Author.Rules.{rules}
 use Rattle.walk.proofs.better.Goals as goal
 
 pub returns-then-e-lt-THREADS : goal.returns-then-e-lt-THREADS

@@ -2,7 +2,6 @@
 use mathlib.Core.Path.{subst}
 use Rattle.walk.specs.Says.{Extends}
 use Rattle.walk.specs.Completing.{extended_last, extended_ready, extended_on}
-use borrow.Author.Rules.{rules}
 use Rattle.walk.proofs.continued.Goals as goal
 
 pub completed-requires : goal.completed-requires

@@ -1,10 +1,9 @@
 -- `walk::copy` meets its contract. The loop's invariant: the first i bytes are copied.
 use mathlib.Core.Path.{◌≡◌, refl, ◌∙◌, ap}
-use mathlib.Core.List.{List, ◌++◌}
-use Prim.Native.Nat.{ℕ, ◌≤◌, ◌<◌, ◌-◌}
+use mathlib.Core.List.{List}
+use Prim.Native.Nat.{ℕ, ◌<◌}
 use native.Mathlib.Omega.{arith}
-use lib.ListN.{length, take, drop, get_or, set, length-set}
-use borrow.Author.Rules.{rules}
+use lib.ListN.{length, get_or, set, length-set}
 use Rattle.lists.proofs.CodeLaws.{copied_more}
 use Rattle.walk.proofs.copy.Goals as goal
 

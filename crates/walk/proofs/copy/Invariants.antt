@@ -1,11 +1,8 @@
 -- `walk::copy` meets its contract. The loop's invariant: the first i bytes are copied.
-use mathlib.Core.Path.{◌≡◌, refl, ◌∙◌, ap}
-use mathlib.Core.List.{List, ◌++◌}
-use Prim.Native.Nat.{ℕ, ◌≤◌, ◌<◌, ◌-◌}
-use native.Mathlib.Omega.{arith}
-use lib.ListN.{length, take, drop, get_or, set, length-set}
-use borrow.Author.Rules.{rules}
-use Rattle.lists.proofs.CodeLaws.{copied_more}
+use mathlib.Core.Path.{◌≡◌}
+use mathlib.Core.List.{◌++◌}
+use Prim.Native.Nat.{◌≤◌, ◌-◌}
+use lib.ListN.{length, take, drop}
 use Rattle.walk.proofs.copy.Given as goal
 
 abbrev pub invariant-loop-i : goal.invariant-loop-i

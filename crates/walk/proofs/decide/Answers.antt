@@ -2,7 +2,6 @@
 use mathlib.Core.Path.{◌∙◌, ap}
 use Rattle.walk.specs.Says.{stage_of}
 use Rattle.walk.specs.Decided.{decided_one}
-use borrow.Author.Rules.{rules}
 use Rattle.walk.proofs.decide.Goals as goal
 
 pub returns : goal.returns

@@ -1,6 +1,5 @@
 -- `walk::extended` meets its contract.
 use Rattle.walk.specs.Decided.{full_stays, stored_made}
-use borrow.Author.Rules.{rules}
 use Rattle.walk.proofs.extended.Goals as goal
 
 pub returns-then-at-ge-LIST : goal.returns-then-at-ge-LIST

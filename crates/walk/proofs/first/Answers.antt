@@ -1,7 +1,6 @@
 -- `walk::first` meets its contract: a refused table's answer, or the first list of the table.
 use mathlib.Core.Path.{◌∙◌}
 use Rattle.walk.specs.Handed.{started, first-refused, first_accepted}
-use borrow.Author.Rules.{rules}
 use Rattle.walk.proofs.first.Goals as goal
 
 pub first_of-requires : goal.first_of-requires

@@ -4,7 +4,6 @@ use mathlib.Core.List.{List}
 use Prim.Native.Nat.{ℕ}
 use Rattle.rules.specs.Walk.{hand_over}
 use Rattle.walk.specs.Handed.{first_ready, first_made, first-given}
-use borrow.Author.Rules.{rules}
 use Rattle.walk.proofs.first_of.Goals as goal
 
 pub completed-r-requires : goal.completed-r-requires

@@ -1,7 +1,6 @@
 -- `walk::hand_over` meets its contract.
 use native.Mathlib.Omega.{arith}
 use Rattle.walk.specs.Handed.{gave_fits, gave_short}
-use borrow.Author.Rules.{rules}
 use Rattle.walk.proofs.hand_over.Goals as goal
 
 pub returns-then-n-list : goal.returns-then-n-list

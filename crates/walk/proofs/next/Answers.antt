@@ -1,7 +1,6 @@
 -- `walk::next` meets its contract: a refused table's answer, or what the table's next list comes to.
 use mathlib.Core.Path.{◌∙◌}
 use Rattle.walk.specs.Handed.{started, next-refused, next_accepted}
-use borrow.Author.Rules.{rules}
 use Rattle.walk.proofs.next.Goals as goal
 
 pub next_of-requires : goal.next_of-requires

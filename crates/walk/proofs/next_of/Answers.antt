@@ -1,7 +1,6 @@
 -- `walk::next_of` meets its contract: how the list ends, and its last mark.
 use Rattle.turns_run.specs.declared.End.TheVariants as end
 use Rattle.walk.specs.Handed.{next-given, next-none, next-raised}
-use borrow.Author.Rules.{rules}
 use Rattle.walk.proofs.next_of.Goals as goal
 
 pub pass-p-requires : goal.pass-p-requires

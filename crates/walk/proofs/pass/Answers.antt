@@ -5,10 +5,7 @@ use Rattle.rules.specs.declared.world.World.{World}
 use Rattle.turns_run.specs.declared.End.{End}
 use Rattle.walk.specs.Says.{stage_at, PassSays}
 use Rattle.walk.specs.Passes.{passing_start, passing_end, passing_refused, passing_ends, passing_surplus, passing_wants}
-use Prim.Native.Nat.{◌-◌}
-use lib.ListN.{length}
 use Rattle.walk.specs.Says.{Passing}
-use borrow.Author.Rules.{rules}
 use Rattle.walk.proofs.pass.Goals as goal
 
 pub loop-i-init : goal.loop-i-init

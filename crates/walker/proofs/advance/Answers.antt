@@ -1,9 +1,7 @@
 -- `walker::advance` meets its contract.
-use Rattle.std.proofs.Common.{◌≡◌, ℕ, ◌-◌, ◌<◌, min, length, get_or, sym, arith, rules}
+use Rattle.std.proofs.Common.{◌≡◌, ◌-◌, ◌<◌, min, length, get_or, sym, arith, rules}
 use Rattle.rules.specs.Limits.{max_list}
 use Rattle.rules.specs.Walk.{decisions}
-use Rattle.walker.specs.declared.Walker.{Walker}
-use Rattle.walker.specs.Walking.{last_below}
 use Rattle.walker.specs.Steps.{found_in, found_decision, advanced-over, advanced_on}
 use Rattle.walker.proofs.advance.Goals as goal
 use Rattle.walker.proofs.advance.Goals.{Joined-path-lt-LIST, Else-i-eq0, then-path-lt-LIST, else-path-lt-LIST}

@@ -1,5 +1,4 @@
 -- `walker::at_start` meets its contract.
-use borrow.Author.Rules.{rules}
 use Rattle.walker.specs.Steps.{at_start_is}
 use Rattle.walker.proofs.at_start.Goals as goal
 

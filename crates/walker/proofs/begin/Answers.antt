@@ -1,5 +1,4 @@
 -- `walker::begin` meets its contract.
-use borrow.Author.Rules.{rules}
 use Rattle.walker.specs.Steps.{begun_is}
 use Rattle.walker.proofs.begin.Goals as goal
 

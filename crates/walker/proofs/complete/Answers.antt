@@ -1,16 +1,13 @@
 -- `walker::complete` meets its contract. The loop's invariant: the completion from where it stands is the whole one.
 use mathlib.Core.Path.{◌≡◌, refl, sym, ◌∙◌}
-use Prim.Native.Nat.{◌+◌, ◌-◌, ◌≤◌}
+use Prim.Native.Nat.{◌+◌}
 use native.Mathlib.Omega.{arith}
-use lib.ListN.{length, length-set}
+use lib.ListN.{length-set}
 use mathlib.Core.Bool.{true}
 use Rattle.turns_run.specs.declared.End.{End}
 use Rattle.turns_run.specs.declared.End.TheVariants as end
 use Rattle.walk.specs.Says.{is_over}
 use Rattle.walker.specs.Steps.{least_at_most, least_small, complete_on, complete-over, complete_full}
-use Rattle.rules.specs.Limits.{max_list}
-use Rattle.rules.specs.Walk.{decisions}
-use Rattle.walker.specs.Walking.{completed}
 use borrow.Author.Rules.{rules}
 use Rattle.walker.proofs.complete.Goals as goal
 

@@ -1,10 +1,9 @@
 -- `walker::last_below` meets its contract. The loop's invariant: what is sought among the first n places is sought among the first i.
 use mathlib.Core.Path.{◌≡◌, refl, sym, ◌∙◌, ap}
-use Prim.Native.Nat.{suc, ◌-◌, ◌≤◌}
+use Prim.Native.Nat.{suc, ◌-◌}
 use native.Mathlib.Omega.{arith}
 use Rattle.walker.specs.Walking.{last_below}
 use Rattle.walker.specs.Steps.{below_end, below_found, below_not}
-use borrow.Author.Rules.{rules}
 use Rattle.walker.proofs.last_below.Goals as goal
 
 pub loop-i-init : goal.loop-i-init

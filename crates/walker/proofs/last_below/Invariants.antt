@@ -1,10 +1,7 @@
 -- `walker::last_below` meets its contract. The loop's invariant: what is sought among the first n places is sought among the first i.
-use mathlib.Core.Path.{◌≡◌, refl, sym, ◌∙◌, ap}
-use Prim.Native.Nat.{suc, ◌-◌, ◌≤◌}
-use native.Mathlib.Omega.{arith}
+use mathlib.Core.Path.{◌≡◌}
+use Prim.Native.Nat.{◌≤◌}
 use Rattle.walker.specs.Walking.{last_below}
-use Rattle.walker.specs.Steps.{below_end, below_found, below_not}
-use borrow.Author.Rules.{rules}
 use Rattle.walker.proofs.last_below.Given as goal
 
 abbrev pub invariant-loop-i : goal.invariant-loop-i

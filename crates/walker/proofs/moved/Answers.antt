@@ -1,5 +1,4 @@
 -- `walker::moved` meets its contract.
-use borrow.Author.Rules.{rules}
 use Rattle.walker.specs.Steps.{moved_not, moved_on}
 use Rattle.walker.proofs.moved.Goals as goal
 
