@@ -106,12 +106,26 @@ fn advanced(c: Completion) -> Further
     extended(c, d)
 }
 
+// The same in place, so that a call has no copy of the completion on its stack.
+fn extend(c: &mut Completion, d: u8) -> bool
+    ensures { Extends c.old d c.new result }
+{
+    let at = c.at;
+    if at >= LIST {
+        return false;
+    }
+    c.list[at] = d;
+    let ran = decide(c.table, c.world, d);
+    c.world = ran.world;
+    c.at = at + 1;
+    !is_over(ran.end)
+}
+
 fn advance(c: &mut Completion) -> bool
     ensures { Advances c.old c.new result }
 {
-    let r = advanced(*c);
-    *c = r.completion;
-    r.wanted
+    let d = least(c.world.asked, c.world.threads, 0) as u8;
+    extend(c, d)
 }
 
 // It calls itself, once for each decision. All of it is lent, so that a call takes little stack.
@@ -128,8 +142,11 @@ fn completed(c: Completion) -> Completion
     requires { Completable c }
     ensures { Completes c result }
 {
-    let mut u = c;
-    complete(&mut u);
+    let r = advanced(c);
+    let mut u = r.completion;
+    if r.wanted {
+        complete(&mut u);
+    }
     u
 }
 
