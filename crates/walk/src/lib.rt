@@ -66,47 +66,7 @@ fn is_over(end: End) -> bool
     }
 }
 
-// The decision d. A list that is full stays as it is; none that is completed ever is.
-fn extended(c: Completion, d: u8) -> Further
-    ensures { Extends c d result.completion result.wanted }
-{
-    let at = c.at;
-    if at >= LIST {
-        return Further {
-            completion: c,
-            wanted: false,
-        };
-    }
-    let table = c.table;
-    let world = c.world;
-    let mut list = c.list;
-    list[at] = d;
-    let ran = decide(table, world, d);
-    let end = ran.end;
-    let then = ran.world;
-    Further {
-        completion: Completion {
-            table: table,
-            world: then,
-            list: list,
-            at: at + 1,
-        },
-        wanted: !is_over(end),
-    }
-}
-
-// The smallest allowed decision.
-fn advanced(c: Completion) -> Further
-    ensures { Advances c result.completion result.wanted }
-{
-    let world = c.world;
-    let asked = world.asked;
-    let threads = world.threads;
-    let d = least(asked, threads, 0) as u8;
-    extended(c, d)
-}
-
-// The same in place, so that a call has no copy of the completion on its stack.
+// The decision d, in place, so that a call keeps no copy of the completion. A list that is full stays as it is; none that is completed ever is.
 fn extend(c: &mut Completion, d: u8) -> bool
     ensures { Extends c.old d c.new result }
 {
@@ -116,15 +76,30 @@ fn extend(c: &mut Completion, d: u8) -> bool
     }
     c.list[at] = d;
     let ran = decide(c.table, c.world, d);
+    let end = ran.end;
     c.world = ran.world;
     c.at = at + 1;
-    !is_over(ran.end)
+    !is_over(end)
 }
 
+fn extended(c: Completion, d: u8) -> Further
+    ensures { Extends c d result.completion result.wanted }
+{
+    let mut u = c;
+    let wanted = extend(&mut u, d);
+    Further {
+        completion: u,
+        wanted: wanted,
+    }
+}
+
+// The smallest allowed decision.
 fn advance(c: &mut Completion) -> bool
     ensures { Advances c.old c.new result }
 {
-    let d = least(c.world.asked, c.world.threads, 0) as u8;
+    let asked = c.world.asked;
+    let threads = c.world.threads;
+    let d = least(asked, threads, 0) as u8;
     extend(c, d)
 }
 
@@ -142,11 +117,8 @@ fn completed(c: Completion) -> Completion
     requires { Completable c }
     ensures { Completes c result }
 {
-    let r = advanced(c);
-    let mut u = r.completion;
-    if r.wanted {
-        complete(&mut u);
-    }
+    let mut u = c;
+    complete(&mut u);
     u
 }
 
