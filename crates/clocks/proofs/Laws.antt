@@ -6,18 +6,25 @@
 --     join_left, join_right, join_least       join is the least upper bound
 --     raised_own, raised_end, raised_other    raising moves one place by one
 --     Compared, compared, nobody_iff          the compare: nobody exactly when the other clock is at most this one, else all that are ahead and the lowest
---     Down, down-..                           the compare's walk from the last place down
-use Rattle.std.specs.Prelude.{◌≡◌, refl, ◌≢◌, ◌↔◌, Bool, true, false, cond, List, [], ◌∷◌, ℕ, zero, suc, ◌+◌, ◌*◌, ◌/◌, ◌%◌, ◌^◌, ◌≤◌, ◌<◌, max, min, eqb, ltb, length, get_or, drop, set}
-use Rattle.std.proofs.Common.{sym, ◌∙◌, ap, true≢false, not-suc-le-zero, le_of_suc-le-suc, pow-suc, arith, length-set, length-drop, pow_mono, ext_get_or, get_or-set_same, get_or-set_other, drop-cons, ltb-true, ltb-false, eqb-true, eq-eqb, ne_eqb}
+--     lowest_trails                           the lowest place is the mask's lowest bit
+--     Down, down_..                           the compare's walk from the last place down
+use Rattle.std.specs.Prelude.{◌≡◌, refl, ◌≢◌, ◌↔◌, not, map, Option, None, Some, Bool, true, false, cond, List, [], ◌∷◌, ℕ, zero, suc, ◌+◌, ◌*◌, ◌^◌, ◌≤◌, ◌<◌, max, min, eqb, ltb, length, get_or, drop, set}
+use Rattle.std.proofs.Common.{sym, ◌∙◌, ap, true≢false, not-suc-le-zero, le_of_suc-le-suc, arith, length-set, length-drop, pow_mono, ext_get_or, get_or-set_same, get_or-set_other, drop-cons, ltb-true, ltb-false, eqb-true}
 use Rattle.std.proofs.Math.Decide.{dec_lt}
 use Rattle.std.proofs.Math.ListN.{get_or-eq_default}
 use Rattle.std.proofs.lemmas.List.{set-get_or}
 use Rattle.std.proofs.Math.Seq.{set_out, drop-length}
 use Rattle.std.proofs.lemmas.Bool.{eqb-false}
+use mir.Val.{bool_byte}
+use Rattle.std.specs.Int.{bit_at}
+use Rattle.std.specs.Int.Count.{count_trailing_zeros}
+use Rattle.std.specs.Simd.Lanes.{mask_l}
+use Rattle.std.specs.List.{prefix_len}
+use Rattle.std.proofs.lemmas.Simd.{mask_l-lt, bit_mask_l, trailing_mask_l}
+use Rattle.std.proofs.lemmas.List.{map-id}
 use Rattle.clocks.specs.Pass.{pass-length, pass_at_lem}
 use Rattle.clocks.specs.Clock.{joined, raised, aheads, mask_of, lowest_of, who_ahead}
 use Rattle.clocks.specs.declared.clock.Ahead.{Ahead}
-use Rattle.clocks.specs.declared.clock.Ahead.TheVariants.{Nobody, Threads}
 
 -- each count is at most the other's at its place; a place that is not there counts 0
 abbrev pub AtMost : List ℕ → List ℕ → Type 0
@@ -107,23 +114,21 @@ aheads_at (x ∷ xs) [] i l h = absurd (not-suc-le-zero (rw l at h))
 aheads_at (x ∷ xs) (y ∷ ys) zero l h = refl
 aheads_at (x ∷ xs) (y ∷ ys) (suc i) l h = aheads_at xs ys i (omega arith) (le_of_suc-le-suc h)
 
--- a mask's bits
-abbrev pub bit_at : ℕ → ℕ → ℕ
-bit_at mask zero = mask % 2
-bit_at mask (suc i) = bit_at (mask / 2) i
+-- the mask and the first place in the library's words
+mask_is : (bs : List Bool) → mask_of bs ≡ mask_l bs
+mask_is [] = refl
+mask_is (b ∷ bs) = ap (λ (m : ℕ). cond b 1 0 + 2 * m) (mask_is bs)
+
+lowest_is : (bs : List Bool) → lowest_of bs ≡ prefix_len not bs
+lowest_is [] = refl
+lowest_is (true ∷ bs) = refl
+lowest_is (false ∷ bs) = omega (arith, lowest_is bs)
 
 pub mask_bit : (bs : List Bool) (i : ℕ) → bit_at (mask_of bs) i ≡ cond (get_or bs i false) 1 0
-mask_bit [] zero = refl
-mask_bit [] (suc i) = mask_bit [] i
-mask_bit (true ∷ bs) zero = omega arith
-mask_bit (false ∷ bs) zero = omega arith
-mask_bit (true ∷ bs) (suc i) = let h : (1 + 2 * mask_of bs) / 2 ≡ mask_of bs = omega arith in ap (λ (m : ℕ). bit_at m i) h ∙ mask_bit bs i
-mask_bit (false ∷ bs) (suc i) = let h : (0 + 2 * mask_of bs) / 2 ≡ mask_of bs = omega arith in ap (λ (m : ℕ). bit_at m i) h ∙ mask_bit bs i
+mask_bit bs i = rw mask_is (bit_mask_l bs i)
 
 pub mask_fits : (bs : List Bool) → mask_of bs < 2 ^ length bs
-mask_fits [] = omega arith
-mask_fits (true ∷ bs) = omega (arith, mask_fits bs, pow-suc 2 (length bs))
-mask_fits (false ∷ bs) = omega (arith, mask_fits bs, pow-suc 2 (length bs))
+mask_fits bs = rw mask_is (mask_l-lt bs)
 
 -- no place has a yes exactly when the mask is 0
 pub mask_zero : (bs : List Bool) (i : ℕ) → mask_of bs ≡ 0 → get_or bs i false ≡ false
@@ -149,10 +154,12 @@ lowest_first (true ∷ bs) j h = absurd (not-suc-le-zero h)
 lowest_first (false ∷ bs) zero h = refl
 lowest_first (false ∷ bs) (suc j) h = lowest_first bs j (le_of_suc-le-suc h)
 
-pub lowest_le : (bs : List Bool) → lowest_of bs ≤ length bs
-lowest_le [] = omega arith
-lowest_le (true ∷ bs) = omega arith
-lowest_le (false ∷ bs) = omega (arith, lowest_le bs)
+-- where the mask is not 0, its lowest bit is the lowest place's
+pub lowest_trails : (bs : List Bool) (k : ℕ) → length bs ≤ k → 0 < mask_of bs → count_trailing_zeros k (mask_of bs) ≡ lowest_of bs
+lowest_trails bs k h n =
+    let m : mask_of bs ≡ mask_l (map (λ (b : Bool). b) bs) = rw map-id (mask_is bs) in
+    let e = trailing_mask_l (λ b. b) k bs h (omega arith) in
+    ap (count_trailing_zeros k) m ∙ e ∙ sym (lowest_is bs)
 
 -- somebody is ahead: the mask has exactly the places that are, and the lowest of them is told
 pub record Found (xs ys : List ℕ) (mask low : ℕ) : Type 0 where
@@ -163,9 +170,9 @@ pub record Found (xs ys : List ℕ) (mask low : ℕ) : Type 0 where
   pub first : (j : ℕ) → j < low → get_or ys j 0 ≤ get_or xs j 0
 
 -- what the compare of xs with ys has to say
-abbrev pub Compared : List ℕ → List ℕ → Ahead → Type 0
-Compared xs ys Nobody = AtMost ys xs
-Compared xs ys (Threads mask low) = Found xs ys mask low.0
+abbrev pub Compared : List ℕ → List ℕ → Option Ahead → Type 0
+Compared xs ys None = AtMost ys xs
+Compared xs ys (Some a) = Found xs ys a.mask a.lowest.0
 
 module _ (xs ys : List ℕ) (l : length xs ≡ length ys) where
   none_at : (i : ℕ) → i < length xs → get_or (aheads xs ys) i false ≡ false → get_or ys i 0 ≤ get_or xs i 0
@@ -174,7 +181,7 @@ module _ (xs ys : List ℕ) (l : length xs ≡ length ys) where
   pub compared : Compared xs ys (who_ahead (aheads xs ys))
   compared = go (eqb (mask_of (aheads xs ys)) 0) refl
     where
-      go : (b : Bool) → eqb (mask_of (aheads xs ys)) 0 ≡ b → Compared xs ys (cond b Nobody (Threads (mask_of (aheads xs ys)) (record { 0 = lowest_of (aheads xs ys) })))
+      go : (b : Bool) → eqb (mask_of (aheads xs ys)) 0 ≡ b → Compared xs ys (cond b None (Some (record { mask = mask_of (aheads xs ys); lowest = record { 0 = lowest_of (aheads xs ys) } })))
       go true e = at_places ys xs (λ i h. let x : i < length xs = omega arith in none_at i x (mask_zero (aheads xs ys) i (eqb-true _ _ e)))
       go false e =
           let w = lowest_yes (aheads xs ys) (eqb-false _ _ e) in
@@ -188,66 +195,40 @@ module _ (xs ys : List ℕ) (l : length xs ≡ length ys) where
           }
 
   -- nobody is ahead exactly when the other clock is at most this one at every place
-  pub nobody_iff : (who_ahead (aheads xs ys) ≡ Nobody) ↔ AtMost ys xs
+  pub nobody_iff : (who_ahead (aheads xs ys) ≡ None) ↔ AtMost ys xs
   nobody_iff = (λ e. rw e at compared, λ p. go p (who_ahead (aheads xs ys)) compared)
     where
-      go : AtMost ys xs → (a : Ahead) → Compared xs ys a → a ≡ Nobody
-      go p Nobody c = refl
-      go p (Threads mask low) c = absurd (omega (arith, p low.0, c.ahead))
+      go : AtMost ys xs → (a : Option Ahead) → Compared xs ys a → a ≡ None
+      go p None c = refl
+      go p (Some a) c = absurd (omega (arith, p a.lowest.0, c.ahead))
 
--- the compare's walk down: what is found from place i on
-pub record Down (bs : List Bool) (mask low i : ℕ) : Type 0 where
+-- the compare's walk down: the mask of the places from i on
+pub record Down (bs : List Bool) (mask i : ℕ) : Type 0 where
   pub in_list : i ≤ length bs
   pub mask_is : mask ≡ mask_of (drop i bs)
-  pub low_is : low ≡ i + lowest_of (drop i bs)
 
-pub down_start : (bs : List Bool) (n : ℕ) → n ≡ length bs → Down bs 0 n n
-down_start bs n e = record {
-  in_list = omega arith;
-  mask_is = ap mask_of (sym (none n e));
-  low_is = omega (arith, ap lowest_of (none n e));
-}
-  where
-    none : (k : ℕ) → k ≡ length bs → drop k bs ≡ []
-    none k q = rw q (drop-length bs)
+pub down_start : (bs : List Bool) (n : ℕ) → n ≡ length bs → Down bs 0 n
+down_start bs n e = record { in_list = omega arith; mask_is = rw (e, drop-length) }
 
-module _ (bs : List Bool) (mask low i : ℕ) (d : Down bs mask low i) where
+module _ {bs : List Bool} {mask i : ℕ} (d : Down bs mask i) where
   pub down_fits : mask < 2 ^ length bs
   down_fits =
-      let e = d.mask_is in
       let m : length (drop i bs) ≤ length bs = omega (arith, length-drop i bs) in
-      omega (arith, mask_fits (drop i bs), pow_mono m)
+      omega (arith, d.mask_is, mask_fits (drop i bs), pow_mono m)
 
-  pub low_fits : low ≤ length bs
-  low_fits = omega (arith, d.in_list, d.low_is, lowest_le (drop i bs), length-drop i bs)
-
-  module _ (j : ℕ) (s : i ≡ suc j) where
-    more : (b : Bool) → get_or bs j false ≡ b → drop j bs ≡ b ∷ drop i bs
-    more b e = drop-cons bs j false (omega (arith, d.in_list)) ∙ cc
-
-    pub down_yes : get_or bs j false ≡ true → Down bs (mask * 2 + 1) j j
-    down_yes e = record {
-      in_list = omega (arith, d.in_list);
-      mask_is = rw (more true e) (omega (arith, d.mask_is));
-      low_is = rw (more true e) (omega arith);
-    }
-
-    pub down_no : get_or bs j false ≡ false → Down bs (mask * 2) low j
-    down_no e = record {
-      in_list = omega (arith, d.in_list);
-      mask_is = rw (more false e) (omega (arith, d.mask_is));
-      low_is = rw (more false e) (omega (arith, d.low_is));
-    }
-
-  at_last : i ≤ 0 → (mask ≡ mask_of bs) × (low ≡ lowest_of bs)
-  at_last z = go i d (omega arith)
+  -- a turn, at the place before
+  pub down_turn : (j : ℕ) → i ≡ suc j → (b : Bool) → get_or bs j false ≡ b → Down bs (2 * mask + bool_byte b) j
+  down_turn j s b e =
+      let from : drop j bs ≡ b ∷ drop i bs = drop-cons bs j false (omega (arith, d.in_list)) ∙ cc in
+      record { in_list = omega (arith, d.in_list); mask_is = rw from (turn b) }
     where
-      go : (k : ℕ) → Down bs mask low k → k ≡ 0 → (mask ≡ mask_of bs) × (low ≡ lowest_of bs)
-      go zero e q = (e.mask_is, omega (arith, e.low_is))
+      turn : (b : Bool) → 2 * mask + bool_byte b ≡ cond b 1 0 + 2 * mask_of (drop i bs)
+      turn true = omega (arith, d.mask_is)
+      turn false = omega (arith, d.mask_is)
+
+  pub down_end : i ≤ 0 → mask ≡ mask_of bs
+  down_end z = go i d (omega arith)
+    where
+      go : (k : ℕ) → Down bs mask k → k ≡ 0 → mask ≡ mask_of bs
+      go zero e q = e.mask_is
       go (suc k) e q = absurd (omega arith)
-
-  pub down_nobody : i ≤ 0 → mask ≡ 0 → Nobody ≡ who_ahead bs
-  down_nobody z e = rw (eq-eqb (mask_of bs) 0 (omega (arith, at_last z)))
-
-  pub down_found : i ≤ 0 → (mask ≡ 0 → ⊥) → Threads mask (record { 0 = low }) ≡ who_ahead bs
-  down_found z n = rw ((at_last z).0, (at_last z).1, ne_eqb (mask_of bs) 0 (λ e. n ((at_last z).0 ∙ e)))

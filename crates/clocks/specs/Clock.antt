@@ -1,9 +1,8 @@
 -- Clocks, as document 01 has them under "Ground rules": over lists of any number of places, and then for the declared `Clock`.
-use Rattle.std.specs.Prelude.{Bool, cond, List, [], ◌∷◌, ℕ, suc, ◌+◌, ◌*◌, max, min, eqb, ltb, get_or, set, replicate}
+use Rattle.std.specs.Prelude.{Bool, cond, Option, None, Some, List, [], ◌∷◌, ℕ, suc, ◌+◌, ◌*◌, max, min, eqb, ltb, get_or, set, replicate}
 use Rattle.clocks.specs.Pass.{pass_from}
 use Rattle.clocks.specs.declared.clock.Clock.{Clock}
 use Rattle.clocks.specs.declared.clock.Ahead.{Ahead}
-use Rattle.clocks.specs.declared.clock.Ahead.TheVariants.{Nobody, Threads}
 use Rattle.clocks.specs.declared.thread.ThreadId.{ThreadId}
 
 -- Join takes the larger count at each place.
@@ -34,8 +33,8 @@ abbrev pub lowest_of : List Bool → ℕ
 lowest_of [] = 0
 lowest_of (b ∷ bs) = cond b 0 (suc (lowest_of bs))
 
-abbrev pub who_ahead : List Bool → Ahead
-who_ahead bs = cond (eqb (mask_of bs) 0) Nobody (Threads (mask_of bs) (record { 0 = lowest_of bs }))
+abbrev pub who_ahead : List Bool → Option Ahead
+who_ahead bs = cond (eqb (mask_of bs) 0) None (Some (record { mask = mask_of bs; lowest = record { 0 = lowest_of bs } }))
 
 -- "1 to 6 threads"
 abbrev pub max_threads : ℕ
@@ -51,5 +50,5 @@ join_of c d = record { counts = joined c.counts d.counts }
 unfoldable pub inc_of : Clock → ThreadId → Clock
 inc_of c t = record { counts = raised t.0 c.counts }
 
-unfoldable pub ahead_of : Clock → Clock → Ahead
+unfoldable pub ahead_of : Clock → Clock → Option Ahead
 ahead_of c d = who_ahead (aheads c.counts d.counts)

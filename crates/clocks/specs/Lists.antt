@@ -1,16 +1,14 @@
--- Laws of lists that the library does not have.
-use Rattle.std.specs.Prelude.{◌≡◌, refl, List, [], ◌∷◌, ◌++◌, ℕ, zero, suc, ◌+◌, ◌≤◌, ◌<◌, min, length, get_or, set, take, drop}
-use Rattle.std.proofs.Common.{sym, ◌∙◌, ap, not-suc-le-zero, le_of_suc-le-suc, add-zero, arith, length-take, get_or-take, get_or-drop}
-use Rattle.std.proofs.Math.Nat.{zero-min, suc-min-suc}
+-- Laws of lists. `get_or-within` and `take_min` are the library's; the others it does not have.
+use Rattle.std.specs.Prelude.{◌≡◌, List, [], ◌∷◌, ◌++◌, ℕ, zero, suc, ◌+◌, ◌≤◌, ◌<◌, min, length, get_or, set, take, drop}
+use Rattle.std.proofs.Common.{sym, ◌∙◌, ap, add-zero, arith, length-take, get_or-take, get_or-drop}
 use Rattle.std.proofs.Math.ListN.{get_or-eq_default}
-use Rattle.std.proofs.Math.Seq.{take-nil}
+use Rattle.std.proofs.lemmas.List as list
+use Rattle.std.proofs.lemmas.List.{get_or_default}
 use Rattle.std.proofs.lemmas.List.Edits.{sets}
 
 -- what is read within a list does not depend on what a place past its end would read
 pub get_or-within : {A : Type 0} (xs : List A) (i : ℕ) (d e : A) → i < length xs → get_or xs i d ≡ get_or xs i e
-get_or-within [] i d e h = absurd (not-suc-le-zero h)
-get_or-within (x ∷ xs) zero d e h = refl
-get_or-within (x ∷ xs) (suc i) d e h = get_or-within xs i d e (le_of_suc-le-suc h)
+get_or-within = get_or_default
 
 -- a byte within a part of a list; before the part's end, past it, and past the list's
 module _ {A : Type 0} (xs : List A) (from n i : ℕ) (d : A) where
@@ -46,6 +44,4 @@ sets_then l at a b k e f g = g ∙ (λ i. sets (f i) (at + sym e i) b) ∙ sets_
 
 -- more than a list has is all of it
 pub take_min : {A : Type 0} (k : ℕ) (xs : List A) → take (min k (length xs)) xs ≡ take k xs
-take_min k [] = take-nil (min k 0) ∙ sym (take-nil k)
-take_min zero (x ∷ xs) = ap (λ (j : ℕ). take j (x ∷ xs)) (zero-min (suc (length xs)))
-take_min {A} (suc k) (x ∷ xs) = ap (λ (j : ℕ). take j (x ∷ xs)) (suc-min-suc k (length xs)) ∙ ap (λ (ys : List A). x ∷ ys) (take_min k xs)
+take_min = list.take_min

@@ -1,8 +1,9 @@
 // A clock has one count for each thread, all 0 at the start (loom's rt/vv.rs).
-ghost use Rattle.std.specs.Prelude.{◌≡◌, max};
+ghost use Rattle.std.specs.Prelude.{◌≡◌};
 ghost use Rattle.clocks.specs.Clock.{zero_clock, join_of, risen, inc_of, ahead_of};
 
 use crate::thread::ThreadId;
+use std::array;
 
 // As many counts as a table may have threads.
 pub const THREADS: usize = 6;
@@ -12,24 +13,18 @@ pub struct Clock {
     pub counts: [u8; THREADS],
 }
 
-// Who is ahead of a clock: all of them, a bit for each, and the lowest.
+// Who is ahead of a clock: a bit for each, and the lowest.
 #[derive(Clone, Copy)]
-pub enum Ahead {
-    Nobody,
-    Threads { mask: u16, lowest: ThreadId },
-}
-
-fn larger(x: u8, y: u8) -> u8
-    ensures { result ≡ max x y }
-{
-    if x < y { y } else { x }
+pub struct Ahead {
+    pub mask: u16,
+    pub lowest: ThreadId,
 }
 
 // One more, unless the count is at its type's end.
 pub fn one_more(n: u8) -> u8
     ensures { result ≡ risen 255 n }
 {
-    if n < 255 { n + 1 } else { n }
+    n.saturating_add(1)
 }
 
 impl Clock {
@@ -45,50 +40,36 @@ impl Clock {
     pub fn join(self, other: Clock) -> Clock
         ensures { result ≡ join_of self other }
     {
-        let mut counts = self.counts;
-        let others = other.counts;
-        for i in 0..THREADS {
-            counts[i] = larger(counts[i], others[i]);
+        Clock {
+            counts: array::from_fn(|i| self.counts[i].max(other.counts[i])),
         }
-        Clock { counts: counts }
     }
 
     // The thread's own count rises by one; a thread past the last place changes nothing.
-    pub fn inc(self, id: ThreadId) -> Clock
+    pub fn inc(mut self, id: ThreadId) -> Clock
         ensures { result ≡ inc_of self id }
     {
-        let i = id.0 as usize;
-        if THREADS <= i {
-            return self;
+        let i = usize::from(id.0);
+        if i < THREADS {
+            self.counts[i] = one_more(self.counts[i]);
         }
-        let mut counts = self.counts;
-        counts[i] = one_more(counts[i]);
-        Clock { counts: counts }
+        self
     }
 
-    // Who is ahead of this clock in `other`. The walk goes down, so the last one met is the lowest.
-    pub fn ahead(self, other: Clock) -> Ahead
+    // Who is ahead of this clock in `other`. The walk goes down, so the first place has the lowest bit.
+    pub fn ahead(self, other: Clock) -> Option<Ahead>
         ensures { result ≡ ahead_of self other }
     {
-        let counts = self.counts;
-        let others = other.counts;
-        let mut mask: u16 = 0;
-        let mut lowest = THREADS;
-        let mut i = THREADS;
-        while 0 < i {
-            i -= 1;
-            mask = mask * 2;
-            if counts[i] < others[i] {
-                mask += 1;
-                lowest = i;
-            }
+        let mut mask = 0u16;
+        for i in (0..THREADS).rev() {
+            mask = 2 * mask + u16::from(self.counts[i] < other.counts[i]);
         }
         if mask == 0 {
-            return Ahead::Nobody;
+            return None;
         }
-        Ahead::Threads {
-            mask: mask,
-            lowest: ThreadId(lowest as u8),
-        }
+        Some(Ahead {
+            mask,
+            lowest: ThreadId(mask.trailing_zeros() as u8),
+        })
     }
 }

@@ -1,29 +1,27 @@
 -- What `list_runs` writes: a line for each run that a walker meets.
-use Rattle.std.specs.Prelude.{◌≡◌, ⊤, Option, None, Some, cond, List, [], ◌∷◌, ◌++◌, ℕ, zero, suc, take}
+use Rattle.std.specs.Prelude.{◌≡◌, ⊤, Option, None, Some, List, [], ◌∷◌, ◌++◌, ℕ, zero, suc, take}
 use Rattle.std.specs.Fmt.{decimal}
 use Rattle.rules.specs.Answer.{numbers_of}
 use Rattle.rules.specs.Walk.{decision_text}
-use Rattle.turns_run.specs.declared.End.{End}
-use Rattle.turns_run.specs.declared.End.TheVariants as end
+use Rattle.rules.specs.declared.answer.Answer.{Answer}
 use Rattle.walker.specs.declared.Walker.{Walker}
 use Rattle.walker.specs.Walking.{advanced}
 use Rattle.listing.specs.Line.{number_digit}
 
--- the number of a run's verdict, or more than any
-abbrev pub end_number : End → ℕ
-end_number (end.NotAllowed i) = 255
-end_number (end.Surplus i) = 255
-end_number end.Unfinished = 255
-end_number (end.Verdict a) = (numbers_of a).number
+-- the number of a run's verdict, if it has one
+abbrev pub verdict_number : Option Answer → Option ℕ
+verdict_number None = None
+verdict_number (Some a) = Some (numbers_of a).number
 
 -- the line of a run that ends so
-abbrev pub end_line : End → List ℕ → List ℕ
-end_line e l = number_digit (end_number e) ∷ decision_text l
+abbrev pub end_line : Option Answer → List ℕ → List ℕ
+end_line a l = number_digit (verdict_number a) ∷ decision_text l
 
 -- the lines of the runs from a walker on, n at most
-unfoldable pub lines : ℕ → Walker → List ℕ
-lines zero w = []
-lines (suc n) w = cond w.over [] (end_line w.path.end (take w.path.at w.path.list) ++ lines n (advanced w))
+unfoldable pub lines : ℕ → Option Walker → List ℕ
+lines zero o = []
+lines (suc n) None = []
+lines (suc n) (Some w) = end_line w.path.verdict (take w.path.at w.path.list) ++ lines n (advanced w)
 
 -- where the written bytes are known: what is written and what still waits are, one after the other, what was written and what waited
 abbrev pub Moves : Option (List ℕ) → List ℕ → Option (List ℕ) → List ℕ → Type 0

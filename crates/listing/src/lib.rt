@@ -3,20 +3,21 @@
 
 mod line;
 
-ghost use Rattle.std.specs.Prelude.{◌≡◌, ◌≤◌, ◌<◌, ◌+◌, ◌-◌, ◌*◌, ◌^◌, ◌++◌, IfOk, IfSome, OnOk, min, length, take};
-ghost use Rattle.std.specs.Io.KnownBytes.{Appends, Consumes, IsAtEnd};
+ghost use Rattle.std.specs.Prelude.{◌≡◌, ◌≤◌, ◌+◌, ◌-◌, ◌^◌, IfOk, IfSome, OnOk, take};
+ghost use Rattle.std.specs.Io.KnownBytes.{Appends};
+ghost use Rattle.arrayvec.specs.ArrayVec.{array_vec_len};
 ghost use Rattle.rules.specs.Answer.{numbers_of};
 ghost use Rattle.rules.specs.Walk.{runs_of};
 ghost use Rattle.walker.specs.Walking.{begun};
-ghost use Rattle.listing.specs.Told.{end_number, end_line, lines, Moves, refusal};
+ghost use Rattle.listing.specs.Told.{lines, Moves, refusal};
 
-use line::put_line;
-use rules::answer::Answer;
-use rules::table::{LIST, Table, Taken};
+use arrayvec::ArrayVec;
+use line::{LINE, add_line};
+use rules::answer::{Answer, Numbers};
+use rules::table::Table;
 use std::io;
 use std::io::{Read, Write};
 use turns_answer::numbers;
-use turns_run::End;
 use turns_table::read_table;
 use walker::{advance, begin};
 
@@ -24,123 +25,54 @@ use walker::{advance, begin};
 const TABLE: usize = 2048;
 // Lines wait here, so that many are written at once.
 const OUT: usize = 65536;
-// More than the longest line.
-const LINE: usize = 2048;
-
-fn at_most(n: usize, most: usize) -> usize
-    ensures { result ≡ min n most }
-{
-    if n < most { n } else { most }
-}
-
-// Reads to the end, and keeps nothing.
-fn pass_over<R: Read>(from: &mut R) -> io::Result<()> {
-    io::copy(from, &mut io::sink())?;
-    Ok(())
-}
-
-// Reads until the slice is full or the input ends, and hands back how many bytes came.
-fn fill<R: Read>(from: &mut R, table: &mut [u8]) -> io::Result<usize>
-    ensures bound { IfOk result (λ n. n ≤ length table.new) }
-    ensures bytes { IfOk result (λ n. Consumes (R.remaining from.old) (R.remaining from.new) (take n table.new)) }
-    ensures end { IfOk result (λ n. n < length table.new → IsAtEnd (R.remaining from.new)) }
-{
-    let mut done = 0;
-    for _ in 0..u64::MAX {
-        if table.len() <= done {
-            break;
-        }
-        let n = from.read(&mut table[done..])?;
-        if n == 0 {
-            break;
-        }
-        done += n;
-    }
-    Ok(done)
-}
 
 // The front part of the input; the rest is read and changes nothing, since a longer table is refused within the front part.
-fn read_input<R: Read>(from: &mut R, table: &mut [u8]) -> io::Result<usize>
-    ensures bound { IfOk result (λ n. n ≤ 2048) }
-    ensures front { length table.old ≡ 2048 → IfOk result (λ n. IfSome (R.remaining from.old) (λ bs. take n table.new ≡ take 2048 bs)) }
+fn read_input<R: Read>(from: &mut R) -> io::Result<ArrayVec<u8, TABLE>>
+    ensures { IfOk result (λ front. IfSome (R.remaining from.old) (λ bs. front.items ≡ take TABLE bs)) }
 {
-    let n = fill(from, table)?;
-    if n == table.len() {
-        pass_over(from)?;
+    let mut front = ArrayVec::new();
+    let mut first = Read::take(&mut *from, TABLE as u64);
+    io::copy(&mut first, &mut front)?;
+    if front.is_full() {
+        io::copy(from, &mut io::sink())?;
     }
-    Ok(at_most(n, TABLE))
+    Ok(front)
 }
 
 fn say_refused<W: Write>(to: &mut W, a: Answer) -> io::Result<()>
     ensures { OnOk result (Appends (W.contents to.old) (W.contents to.new) (refusal (numbers_of a).number (numbers_of a).place)) }
 {
-    let six = numbers(a);
-    let number = six.number;
-    let place = six.place;
+    let Numbers { number, place, .. } = numbers(a);
     writeln!(to, "refused {number} at {place}")
 }
 
-// The number of a run's verdict; an end that is none has no digit.
-fn verdict(end: End) -> u8
-    ensures { result ≡ end_number end }
+// What waits is written where there is no room for another line.
+fn make_room<W: Write>(waiting: &mut ArrayVec<u8, OUT>, to: &mut W) -> io::Result<()>
+    ensures room { OnOk result (array_vec_len waiting.new + LINE ≤ OUT) }
+    ensures moves { OnOk result (Moves (W.contents to.old) waiting.old.items (W.contents to.new) waiting.new.items) }
 {
-    let End::Verdict(a) = end else {
-        return u8::MAX;
-    };
-    let six = numbers(a);
-    six.number
-}
-
-// Writes what waits.
-fn flush<W: Write>(to: &mut W, out: &[u8], used: usize) -> io::Result<()>
-    ensures { OnOk result (Appends (W.contents to.old) (W.contents to.new) (take used out.now)) }
-{
-    to.write_all(&out[..at_most(used, out.len())])
-}
-
-// Where the next line may begin: what waits is written where there is no room for another line.
-fn make_room<W: Write>(to: &mut W, out: &[u8], used: usize) -> io::Result<usize>
-    ensures room { IfOk result (λ n. n ≤ 63488) }
-    ensures moves { IfOk result (λ n. Moves (W.contents to.old) (take used out.now) (W.contents to.new) (take n out.now)) }
-{
-    if used <= OUT - LINE {
-        return Ok(used);
+    if waiting.remaining_capacity() < LINE {
+        to.write_all(waiting)?;
+        waiting.clear();
     }
-    flush(to, out, used)?;
-    Ok(0)
-}
-
-// Adds the line of one run, and hands back how much waits then.
-fn add_line(end: End, list: &[u8], out: &mut [u8], used: usize) -> usize
-    requires { length list.now < 1000 }
-    ensures line { used + 3 * length list.now + 2 ≤ min 65536 (length out.old)
-        → take result out.new ≡ take used out.old ++ end_line end list.now }
-    ensures end { used ≤ 65536 → result ≡ used + 3 * length list.now + 2 }
-{
-    let at = at_most(used, OUT);
-    put_line(out, at, verdict(end), list)
+    Ok(())
 }
 
 // The runs of a table. Nothing says that they end, so they are counted, up to a number that no walk reaches.
 fn go_through<W: Write>(table: Table, to: &mut W) -> io::Result<()>
-    ensures { OnOk result (Appends (W.contents to.old) (W.contents to.new) (lines (2 ^ 64 - 1) (begun table))) }
+    ensures { OnOk result (Appends (W.contents to.old) (W.contents to.new) (lines (2 ^ 64 - 1) (Some (begun table)))) }
 {
-    let mut out = [0u8; OUT];
-    let mut w = begin(table);
-    let mut used = 0;
+    let mut waiting = ArrayVec::<u8, OUT>::new();
+    let mut next = Some(begin(table));
     for _ in 0..u64::MAX {
-        if w.over {
+        let Some(w) = next else {
             break;
-        }
-        let at = make_room(to, &out, used)?;
-        let path = w.path;
-        let list = path.list;
-        let end = path.end;
-        let n = at_most(path.at, LIST);
-        used = add_line(end, &list[..n], &mut out, at);
-        w = advance(w);
+        };
+        make_room(&mut waiting, to)?;
+        add_line(&mut waiting, &w.path);
+        next = advance(w);
     }
-    flush(to, &out, used)
+    to.write_all(&waiting)
 }
 
 // Reads a table, and writes a line for each run of it, or its refusal.
@@ -148,13 +80,9 @@ pub fn list_runs<R: Read, W: Write>(from: &mut R, to: &mut W) -> io::Result<()>
     ensures { OnOk result (IfSome (R.remaining from.old) (λ bs.
         Appends (W.contents to.old) (W.contents to.new) (runs_of (2 ^ 64 - 1) bs))) }
 {
-    let mut table = [0u8; TABLE];
-    let n = read_input(from, &mut table)?;
-    let read = read_table(&table[..n]);
-    let taken = read.taken;
-    let t = read.table;
-    let Taken::Refused(a) = taken else {
-        return go_through(t, to);
-    };
-    say_refused(to, a)
+    let front = read_input(from)?;
+    match read_table(&front) {
+        Ok(table) => go_through(table, to),
+        Err(refusal) => say_refused(to, refusal),
+    }
 }

@@ -1,10 +1,9 @@
 -- The laws of the next complete list, of specs/Next.antt.
 --     next_of-later        `later` and `next_of` are equal, on every list
 --     first-first, next-answers   what demand 3 says of "first" and of "next"
-use Rattle.std.specs.Prelude.{◌≡◌, ◌⊎◌, Bool, true, false, cond, ltb, length}
+use Rattle.std.specs.Prelude.{◌≡◌, ◌⊎◌, Bool, true, false, cond, ltb, length, None, Option, Some}
 use Rattle.std.proofs.Math.Path.{refl}
 use Rattle.std.proofs.Common.{sym, ◌∙◌, ap, inl, inr, arith, add-one, length-append, take_at, ltb-true, ltb-false}
-use Rattle.std.proofs.Math.Option.{Option, none, some}
 use mathlib.Core.List.{List, [], ◌∷◌, ◌++◌}
 use Prim.Native.Nat.{ℕ, suc, ◌≤◌, ◌<◌}
 use Rattle.std.proofs.Math.Decide.{dec_lt}
@@ -27,7 +26,7 @@ module _ {W Verdict : Type 0} (decide : W → ℕ → Outcome W Verdict) (top : 
       e = larger decide top w d
 
       go : (b : Bool) → finish decide top left (kept ++ d ∷ l) (cond b (at i w e) best) ≡ or_else (behind kept (raised_if decide top left b w e)) (finish decide top left (kept ++ d ∷ l) best)
-      go true = ap (λ (p : List ℕ). some (p ++ raised decide top left w e)) (take_at kept (d ∷ l) i s)
+      go true = ap (λ (p : List ℕ). Some (p ++ raised decide top left w e)) (take_at kept (d ∷ l) i s)
       go false = refl
 
   -- the pass from an index on is `later`, behind what was passed
@@ -41,8 +40,8 @@ module _ {W Verdict : Type 0} (decide : W → ℕ → Outcome W Verdict) (top : 
       b = better decide top left best i w d
 
       join : (r : Option (List ℕ)) → or_else (behind (kept ++ d ∷ []) r) (finish decide top left (kept ++ d ∷ l) b) ≡ or_else (behind kept (or_else (behind (d ∷ []) r) (raise decide top left w d))) (finish decide top left (kept ++ d ∷ l) best)
-      join none = better-raise kept l d i w best s
-      join (some m) = ap some (append_snoc kept d m)
+      join None = better-raise kept l d i w best s
+      join (Some m) = ap Some (append_snoc kept d m)
 
       go : (o : Outcome W Verdict)
           → ((w' : W) → finish decide top left ((kept ++ d ∷ []) ++ l) (pass decide top left b (suc i) w' l) ≡ or_else (behind (kept ++ d ∷ []) (later decide top left w' l)) (finish decide top left ((kept ++ d ∷ []) ++ l) b))
@@ -55,9 +54,9 @@ module _ {W Verdict : Type 0} (decide : W → ℕ → Outcome W Verdict) (top : 
   unfolding next_of
   next_of-later w l = pass-later l w [] 0 nowhere refl ∙ all (later decide top left w l)
     where
-      all : (r : Option (List ℕ)) → or_else (behind [] r) none ≡ r
-      all none = refl
-      all (some m) = refl
+      all : (r : Option (List ℕ)) → or_else (behind [] r) None ≡ r
+      all None = refl
+      all (Some m) = refl
 
 module _ {W Verdict : Type 0} (decide : W → ℕ → Outcome W Verdict) (top : ℕ) (left : W → ℕ) (Good : W → Type 0)
     (bounded : (w : W) (d : ℕ) → Good w → top ≤ d → decide w d ≡ refused)
@@ -143,8 +142,8 @@ module _ {W Verdict : Type 0} (decide : W → ℕ → Outcome W Verdict) (top : 
 
       rest : (w' : W) → decide w d ≡ wants w' → (r : Option (List ℕ)) → Answers decide w' l r
           → Answers decide w (d ∷ l) (or_else (behind (d ∷ []) r) (raise decide top left w d))
-      rest w' e none a = raise-next w d l g (λ m k p. a m (complete_tail decide w d w' m e k) p)
-      rest w' e (some m) a = stays w' e m a
+      rest w' e None a = raise-next w d l g (λ m k p. a m (complete_tail decide w d w' m e k) p)
+      rest w' e (Some m) a = stays w' e m a
 
       go : Done decide w d l ⊎ Wants decide w d l → Below
           → Answers decide w (d ∷ l) (later_at (decide w d) d (raise decide top left w d) (λ w'. later decide top left w' l))

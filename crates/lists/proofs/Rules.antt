@@ -1,10 +1,9 @@
 -- The laws of what the rules alone say, in specs/Rules.antt.
 --     prefix_free              no complete list goes on after another
 --     first_unique, answers_unique   any two results that the statements allow agree
-use Rattle.std.specs.Prelude.{◌≡◌, ◌⊎◌, true, ℕ}
+use Rattle.std.specs.Prelude.{◌≡◌, ◌⊎◌, true, ℕ, None, Option, Some}
 use Rattle.std.proofs.Math.Path.{refl}
 use Rattle.std.proofs.Common.{sym, ◌∙◌, ap, inl, inr, arith}
-use Rattle.std.proofs.Math.Option.{Option, none, some}
 use mathlib.Core.List.{List, [], ◌∷◌, ◌++◌}
 use Rattle.std.proofs.Math.Dec.{T}
 use Rattle.lists.proofs.Order.{le_antisym}
@@ -67,12 +66,12 @@ module _ {W Verdict : Type 0} (decide : W → ℕ → Outcome W Verdict) where
   next_unique w l m n p q = le_antisym m n (p.least n q.whole q.above) (q.least m p.whole p.above)
 
   pub answers_unique : (w : W) (l : List ℕ) (r s : Option (List ℕ)) → Answers decide w l r → Answers decide w l s → r ≡ s
-  answers_unique w l none none p q = refl
-  answers_unique w l none (some m) p q = absurd (p m q.whole q.above)
-  answers_unique w l (some m) none p q = absurd (q m p.whole p.above)
-  answers_unique w l (some m) (some n) p q = ap some (next_unique w l m n p q)
+  answers_unique w l None None p q = refl
+  answers_unique w l None (Some m) p q = absurd (p m q.whole q.above)
+  answers_unique w l (Some m) None p q = absurd (q m p.whole p.above)
+  answers_unique w l (Some m) (Some n) p q = ap Some (next_unique w l m n p q)
 
   -- "none" is said exactly when no complete list is above
-  pub none_iff_last : (w : W) (l : List ℕ) (r : Option (List ℕ)) → Answers decide w l r → (r ≡ none → IsLast decide w l) × (IsLast decide w l → r ≡ none)
-  none_iff_last w l none p = (λ e. p, λ q. refl)
-  none_iff_last w l (some m) p = (λ e. absurd (let q : ◌≡◌ {A = ℕ} 0 1 = cc in omega arith), λ q. absurd (q m p.whole p.above))
+  pub none_iff_last : (w : W) (l : List ℕ) (r : Option (List ℕ)) → Answers decide w l r → (r ≡ None → IsLast decide w l) × (IsLast decide w l → r ≡ None)
+  none_iff_last w l None p = (λ e. p, λ q. refl)
+  none_iff_last w l (Some m) p = (λ e. absurd (let q : ◌≡◌ {A = ℕ} 0 1 = cc in omega arith), λ q. absurd (q m p.whole p.above))

@@ -4,10 +4,9 @@
 --     chain_by           any first and next that meet their statements give L, list by list, and then none
 --     walk-by            so they walk through it
 --     walk_enumerates, walk_once, walk_no_other, all_reached, enumerates_unique   of the walk by first_of and next_of
-use Rattle.std.specs.Prelude.{◌≡◌, ◌⊎◌}
+use Rattle.std.specs.Prelude.{◌≡◌, ◌⊎◌, None, Option, Some}
 use Rattle.std.proofs.Math.Path.{refl}
 use Rattle.std.proofs.Common.{sym, ◌∙◌, ap, inl, inr, arith}
-use Rattle.std.proofs.Math.Option.{Option, none, some}
 use mathlib.Core.List.{List, [], ◌∷◌, ◌++◌}
 use Prim.Native.Nat.{ℕ, zero, suc, ◌+◌, ◌≤◌, ◌<◌}
 use Rattle.std.proofs.Math.Decide.{dec_lt}
@@ -168,8 +167,8 @@ module _ {W Verdict : Type 0} (decide : W → ℕ → Outcome W Verdict) (w : W)
   -- from the list x on, where x ∷ ls are the complete lists from x up
   chain_from : (ls : List (List ℕ)) (x : List ℕ) → Rising (x ∷ ls) → ((m : List ℕ) → In m (x ∷ ls) → Complete decide w m)
       → ((m : List ℕ) → Complete decide w m → x <ₗ m → In m ls) → Chain next x ls
-  chain_from [] x r c a = answers_unique decide w x (next x) none (answers x (c x (inl refl))) a
-  chain_from (y ∷ ls) x r c a = (answers_unique decide w x (next x) (some y) (answers x (c x (inl refl))) after, chain_from ls y r.1 (λ m i. c m (inr i)) onward)
+  chain_from [] x r c a = answers_unique decide w x (next x) None (answers x (c x (inl refl))) a
+  chain_from (y ∷ ls) x r c a = (answers_unique decide w x (next x) (Some y) (answers x (c x (inl refl))) after, chain_from ls y r.1 (λ m i. c m (inr i)) onward)
     where
       least_of : (m : List ℕ) → In m (y ∷ ls) → y ≤ₗ m
       least_of m (inl e) = inl (sym e)
@@ -215,8 +214,8 @@ reached_in first next (suc n) l m r (inl e) = rw e r
 reached_in first next (suc n) l m r (inr i) = go (next l) refl i (λ x. reached_in first next n x m)
   where
     go : (o : Option (List ℕ)) → next l ≡ o → In m (walk_on o (walk_from next n)) → ((x : List ℕ) → Reached first next x → In m (walk_from next n x) → Reached first next m) → Reached first next m
-    go none e j ih = absurd j
-    go (some x) e j ih = ih x (by_next r e) j
+    go None e j ih = absurd j
+    go (Some x) e j ih = ih x (by_next r e) j
 
 module _ {W Verdict : Type 0} (decide : W → ℕ → Outcome W Verdict) (top : ℕ) (left : W → ℕ) (Good : W → Type 0)
     (bounded : (w : W) (d : ℕ) → Good w → top ≤ d → decide w d ≡ refused)

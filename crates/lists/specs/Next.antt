@@ -3,8 +3,7 @@
 --     first_of             the greedy completion from the start
 --     later               the next list, by recursion from the back: the form that is proved right
 --     pass, next_of        one forward pass that keeps the last pivot so far: the form of the code
-use Rattle.std.specs.Prelude.{Bool, true, false, cond, ltb, take}
-use Rattle.std.proofs.Math.Option.{Option, none, some}
+use Rattle.std.specs.Prelude.{Bool, true, false, cond, ltb, take, None, Option, Some}
 use mathlib.Core.List.{List, [], ◌∷◌, ◌++◌}
 use Prim.Native.Nat.{ℕ, suc}
 use Rattle.lists.specs.Rules.{Outcome, refused, done, wants}
@@ -12,13 +11,13 @@ use Rattle.lists.specs.Greedy.{go_on, larger, greedy}
 
 -- the first of two answers that is a list
 abbrev pub or_else : Option (List ℕ) → Option (List ℕ) → Option (List ℕ)
-or_else none r = r
-or_else (some m) r = some m
+or_else None r = r
+or_else (Some m) r = Some m
 
 -- an answer behind a prefix
 abbrev pub behind : List ℕ → Option (List ℕ) → Option (List ℕ)
-behind kept none = none
-behind kept (some m) = some (kept ++ m)
+behind kept None = None
+behind kept (Some m) = Some (kept ++ m)
 
 -- the last place so far where a larger decision is allowed: its index, its world, the larger decision
 pub data Pivot (W : Type 0) : Type 0 where
@@ -26,7 +25,7 @@ pub data Pivot (W : Type 0) : Type 0 where
   at : ℕ → W → ℕ → Pivot W
 
 abbrev pub later_at : {W Verdict : Type 0} → Outcome W Verdict → ℕ → Option (List ℕ) → (W → Option (List ℕ)) → Option (List ℕ)
-later_at refused d raised k = none
+later_at refused d raised k = None
 later_at (done v) d raised k = raised
 later_at (wants w) d raised k = or_else (behind (d ∷ []) (k w)) raised
 
@@ -44,15 +43,15 @@ module _ {W Verdict : Type 0} (decide : W → ℕ → Outcome W Verdict) (top : 
   raised w e = e ∷ go_on (decide w e) (greedy decide top (left w))
 
   abbrev pub raised_if : Bool → W → ℕ → Option (List ℕ)
-  raised_if true w e = some (raised w e)
-  raised_if false w e = none
+  raised_if true w e = Some (raised w e)
+  raised_if false w e = None
 
   -- decision d raised, if it can be
   abbrev pub raise : W → ℕ → Option (List ℕ)
   raise w d = raised_if (ltb (larger decide top w d) top) w (larger decide top w d)
 
   unfoldable pub later : W → List ℕ → Option (List ℕ)
-  later w [] = none
+  later w [] = None
   later w (d ∷ l) = later_at (decide w d) d (raise w d) (λ w'. later w' l)
 
   -- the pivot after the decision d at index i
@@ -64,8 +63,8 @@ module _ {W Verdict : Type 0} (decide : W → ℕ → Outcome W Verdict) (top : 
   pass best i w (d ∷ l) = pass_at (decide w d) best (better best i w d) (λ b w'. pass b (suc i) w' l)
 
   abbrev pub finish : List ℕ → Pivot W → Option (List ℕ)
-  finish l nowhere = none
-  finish l (at i w e) = some (take i l ++ raised w e)
+  finish l nowhere = None
+  finish l (at i w e) = Some (take i l ++ raised w e)
 
   unfoldable pub next_of : W → List ℕ → Option (List ℕ)
   next_of w l = finish l (pass nowhere 0 w l)

@@ -4,8 +4,7 @@
 --     complete, Complete       the decisions run to a verdict exactly at the last: as a test, and as a fact
 --     IsFirst, IsNext, IsLast  the smallest complete list; the smallest larger one; there is none larger
 --     Answers                  what the answer of "next" has to say: a list, or none
-use Rattle.std.specs.Prelude.{◌≡◌, Bool, true, false, ℕ}
-use Rattle.std.proofs.Math.Option.{Option, none, some}
+use Rattle.std.specs.Prelude.{◌≡◌, Bool, true, false, ℕ, None, Option, Some}
 use mathlib.Core.List.{List, [], ◌∷◌}
 use Rattle.std.proofs.Math.Dec.{T}
 use Rattle.lists.specs.Order.{◌<ₗ◌, ◌≤ₗ◌}
@@ -67,5 +66,5 @@ module _ {W Verdict : Type 0} (decide : W → ℕ → Outcome W Verdict) where
 
   -- what the answer of "next" has to say
   abbrev pub Answers : W → List ℕ → Option (List ℕ) → Type 0
-  Answers w l none = IsLast w l
-  Answers w l (some m) = IsNext w l m
+  Answers w l None = IsLast w l
+  Answers w l (Some m) = IsNext w l m

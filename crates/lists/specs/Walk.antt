@@ -4,8 +4,7 @@
 --     walk_from next n l  l, the list after it, and so on, at most n lists
 --     walk n w           the walk by first_of and next_of
 --     Chain              what a `next` gives, list by list, and then none
-use Rattle.std.specs.Prelude.{◌≡◌, ◌⊎◌}
-use Rattle.std.proofs.Math.Option.{Option, none, some}
+use Rattle.std.specs.Prelude.{◌≡◌, ◌⊎◌, None, Option, Some}
 use mathlib.Core.List.{List, [], ◌∷◌, ◌++◌}
 use Prim.Native.Nat.{ℕ, zero, suc}
 use Rattle.lists.specs.Order.{◌<ₗ◌}
@@ -38,8 +37,8 @@ under (done v) d t = (d ∷ []) ∷ []
 under (wants w) d t = heads d (t w)
 
 abbrev pub walk_on : Option (List ℕ) → (List ℕ → List (List ℕ)) → List (List ℕ)
-walk_on none k = []
-walk_on (some m) k = k m
+walk_on None k = []
+walk_on (Some m) k = k m
 
 -- L lists the complete lists: each of them once, rising. It speaks of the rules only
 module _ {W Verdict : Type 0} (decide : W → ℕ → Outcome W Verdict) where
@@ -60,13 +59,13 @@ walk_from next (suc n) l = l ∷ walk_on (next l) (walk_from next n)
 
 -- what `next` gives from the list x on: the first of ls, of that one the second, and so on, and of the last none
 abbrev pub Chain : (List ℕ → Option (List ℕ)) → List ℕ → List (List ℕ) → Type 0
-Chain next x [] = next x ≡ none
-Chain next x (y ∷ ls) = (next x ≡ some y) × Chain next y ls
+Chain next x [] = next x ≡ None
+Chain next x (y ∷ ls) = (next x ≡ Some y) × Chain next y ls
 
 -- the lists that are met from the first on
 pub data Reached (first : List ℕ) (next : List ℕ → Option (List ℕ)) : List ℕ → Type 0 where
   at_first : {m : List ℕ} → m ≡ first → Reached first next m
-  by_next : {l m : List ℕ} → Reached first next l → next l ≡ some m → Reached first next m
+  by_next : {l m : List ℕ} → Reached first next l → next l ≡ Some m → Reached first next m
 
 module _ {W Verdict : Type 0} (decide : W → ℕ → Outcome W Verdict) (top : ℕ) (left : W → ℕ) where
   unfoldable pub walk : ℕ → W → List (List ℕ)

@@ -1,20 +1,18 @@
 // loom's rt/arc.rs.
 #![tactic(auto)]
 
-ghost use Rattle.std.specs.Prelude.{◌≡◌};
-ghost use Rattle.rules.specs.Ground.{flag, fails};
+ghost use Rattle.std.specs.Prelude.{◌≡◌, Ok};
+ghost use Rattle.rules.specs.Ground.{left, outcome};
 ghost use Rattle.rules.specs.declared.arc.Call.TheVariants as call;
-ghost use Rattle.rules.specs.declared.object.Ending.TheVariants.{Misuse};
-ghost use Rattle.rules.specs.Arc.{new, leaks, action_of, last_modification, last_dependent_access, with_accesses, set_last_access, inspecting, left, effect};
+ghost use Rattle.rules.specs.Arc.{new, leaks, action_of, last_modification, last_dependent_access, set_last_access, inspecting, effect};
 
 use clocks::{Clock, THREADS, ThreadId};
 use objects_ground::access;
-use objects_ground::count::one_more;
 use objects_threads::{sync_load, sync_store};
 use rules::access::Access;
-use rules::arc::{Action, Call, Effect, RefModify, State};
-use rules::object::Ending;
-use rules::thread::{Answered, Thread};
+use rules::arc::{Action, Call, RefModify, State};
+use rules::object::{Effect, Failure};
+use rules::thread::Thread;
 
 pub fn new() -> State
     ensures { result ≡ new }
@@ -26,7 +24,7 @@ pub fn new() -> State
         last_ref_inc: never,
         last_ref_dec: never,
         last_ref_inspect: never,
-        last_ref_modification: RefModify::Nothing,
+        last_ref_modification: None,
     }
 }
 
@@ -50,13 +48,13 @@ pub fn action_of(call: Call) -> Action
 }
 
 // The access that changed the count last.
-fn last_modification(modification: RefModify, state: State) -> Access
-    ensures { result ≡ last_modification modification state }
+fn last_modification(state: State) -> Access
+    ensures { result ≡ last_modification state.last_ref_modification state }
 {
-    match modification {
-        RefModify::Nothing => access::new(),
-        RefModify::RefInc => state.last_ref_inc,
-        RefModify::RefDec => state.last_ref_dec,
+    match state.last_ref_modification {
+        None => access::new(),
+        Some(RefModify::RefInc) => state.last_ref_inc,
+        Some(RefModify::RefDec) => state.last_ref_dec,
     }
 }
 
@@ -64,147 +62,128 @@ fn last_modification(modification: RefModify, state: State) -> Access
 pub fn last_dependent_access(action: Action, state: State) -> Access
     ensures { result ≡ last_dependent_access action state }
 {
-    let modification = state.last_ref_modification;
     match action {
         Action::RefInc => state.last_ref_inspect,
         Action::RefDec => state.last_ref_dec,
-        Action::Inspect => last_modification(modification, state),
-    }
-}
-
-fn with_accesses(
-    state: State,
-    inc: Access,
-    dec: Access,
-    inspect: Access,
-    modification: RefModify,
-) -> State
-    ensures { result ≡ with_accesses state inc dec inspect modification }
-{
-    let synchronize = state.synchronize;
-    State {
-        ref_cnt: state.ref_cnt,
-        synchronize: synchronize,
-        last_ref_inc: inc,
-        last_ref_dec: dec,
-        last_ref_inspect: inspect,
-        last_ref_modification: modification,
+        Action::Inspect => last_modification(state),
     }
 }
 
 pub fn set_last_access(action: Action, access: Access, state: State) -> State
     ensures { result ≡ set_last_access action access state }
 {
-    let inc = state.last_ref_inc;
-    let dec = state.last_ref_dec;
-    let inspect = state.last_ref_inspect;
-    let modification = state.last_ref_modification;
     match action {
-        Action::RefInc => with_accesses(state, access, dec, inspect, RefModify::RefInc),
-        Action::RefDec => with_accesses(state, inc, access, inspect, RefModify::RefDec),
-        Action::Inspect => with_accesses(state, inc, dec, access, modification),
+        Action::RefInc => State {
+            last_ref_inc: access,
+            last_ref_modification: Some(RefModify::RefInc),
+            ..state
+        },
+        Action::RefDec => State {
+            last_ref_dec: access,
+            last_ref_modification: Some(RefModify::RefDec),
+            ..state
+        },
+        Action::Inspect => State {
+            last_ref_inspect: access,
+            ..state
+        },
     }
 }
 
 // Works at 0 too.
-fn ref_inc(state: State, threads: [Thread; THREADS]) -> Effect
-    ensures { (active : ThreadId) → result ≡ effect call.RefInc active state threads }
-{
-    let mut s = state;
-    s.ref_cnt = one_more(state.ref_cnt);
-    Effect {
-        ending: Ending::Fine,
-        answer: Answered::Kept,
-        state: s,
-        threads: threads,
-    }
-}
-
-// Misuse: the count is 0 already.
-fn released(state: State, threads: [Thread; THREADS]) -> Effect
-    ensures { (active : ThreadId) → result ≡ left active (fails Misuse state) threads }
+#[tactic(auto, unfolding(rules::specs::Arc::effect, rules::specs::Arc::doing))]
+fn ref_inc(state: State, threads: [Thread; THREADS]) -> Effect<State>
+    ensures { (active : ThreadId) → Ok result ≡ outcome (effect call.RefInc active state threads) }
 {
     Effect {
-        ending: Ending::Misuse,
-        answer: Answered::Kept,
-        state: state,
-        threads: threads,
+        answer: None,
+        state: State {
+            ref_cnt: state.ref_cnt.saturating_add(1),
+            ..state
+        },
+        threads,
     }
 }
 
 // Decrements and stores. The last one out loads what the others stored, since it drops the value.
-fn ref_dec(active: ThreadId, state: State, threads: [Thread; THREADS]) -> Effect
-    ensures { result ≡ effect call.RefDec active state threads }
+#[tactic(auto, unfolding(rules::specs::Arc::effect, rules::specs::Arc::doing))]
+fn ref_dec(
+    active: ThreadId,
+    state: State,
+    threads: [Thread; THREADS],
+) -> Result<Effect<State>, Failure>
+    ensures { result ≡ outcome (effect call.RefDec active state threads) }
 {
-    if state.ref_cnt == 0 {
-        return released(state, threads);
-    }
-    let clock = state.synchronize;
-    let synchronize = sync_store(threads, active, clock);
-    let mut s = state;
-    s.ref_cnt = state.ref_cnt - 1;
-    s.synchronize = synchronize;
-    if s.ref_cnt == 0 {
-        let acquired = sync_load(threads, active, synchronize);
-        return Effect {
-            ending: Ending::Fine,
-            answer: Answered::Left(1),
-            state: s,
-            threads: acquired,
-        };
-    }
-    Effect {
-        ending: Ending::Fine,
-        answer: Answered::Left(0),
-        state: s,
-        threads: threads,
-    }
+    let Some(ref_cnt) = state.ref_cnt.checked_sub(1) else {
+        return Err(Failure::Misuse);
+    };
+    let synchronize = sync_store(threads, active, state.synchronize);
+    let is_last = ref_cnt == 0;
+    Ok(Effect {
+        answer: Some(u16::from(is_last)),
+        state: State {
+            ref_cnt,
+            synchronize,
+            ..state
+        },
+        threads: if is_last {
+            sync_load(threads, active, synchronize)
+        } else {
+            threads
+        },
+    })
 }
 
 // Loads, and changes nothing else.
-fn inspect(active: ThreadId, answer: u16, state: State, threads: [Thread; THREADS]) -> Effect
-    ensures { result ≡ left active (inspecting answer state) threads }
+fn inspect(active: ThreadId, answer: u16, state: State, threads: [Thread; THREADS]) -> Effect<State>
+    ensures { Ok result ≡ outcome (left active (inspecting answer state) threads) }
 {
-    let clock = state.synchronize;
-    let loaded = sync_load(threads, active, clock);
     Effect {
-        ending: Ending::Fine,
-        answer: Answered::Left(answer),
-        state: state,
-        threads: loaded,
+        answer: Some(answer),
+        state,
+        threads: sync_load(threads, active, state.synchronize),
     }
 }
 
-fn one_if(test: bool) -> u16
-    ensures { result ≡ flag test }
-{
-    if test { 1 } else { 0 }
-}
-
-fn get_mut(active: ThreadId, state: State, threads: [Thread; THREADS]) -> Effect
-    ensures { result ≡ effect call.GetMut active state threads }
+#[tactic(auto, unfolding(rules::specs::Arc::effect, rules::specs::Arc::doing))]
+fn get_mut(
+    active: ThreadId,
+    state: State,
+    threads: [Thread; THREADS],
+) -> Result<Effect<State>, Failure>
+    ensures { result ≡ outcome (effect call.GetMut active state threads) }
 {
     if state.ref_cnt == 0 {
-        return released(state, threads);
+        return Err(Failure::Misuse);
     }
     let is_only_ref = state.ref_cnt == 1;
-    inspect(active, one_if(is_only_ref), state, threads)
+    Ok(inspect(active, u16::from(is_only_ref), state, threads))
 }
 
-fn strong_count(active: ThreadId, state: State, threads: [Thread; THREADS]) -> Effect
-    ensures { result ≡ effect call.StrongCount active state threads }
+#[tactic(auto, unfolding(rules::specs::Arc::effect, rules::specs::Arc::doing))]
+fn strong_count(
+    active: ThreadId,
+    state: State,
+    threads: [Thread; THREADS],
+) -> Result<Effect<State>, Failure>
+    ensures { result ≡ outcome (effect call.StrongCount active state threads) }
 {
     if state.ref_cnt == 0 {
-        return released(state, threads);
+        return Err(Failure::Misuse);
     }
-    inspect(active, state.ref_cnt, state, threads)
+    Ok(inspect(active, state.ref_cnt, state, threads))
 }
 
-pub fn effect(call: Call, active: ThreadId, state: State, threads: [Thread; THREADS]) -> Effect
-    ensures { result ≡ effect call active state threads }
+pub fn effect(
+    call: Call,
+    active: ThreadId,
+    state: State,
+    threads: [Thread; THREADS],
+) -> Result<Effect<State>, Failure>
+    ensures { result ≡ outcome (effect call active state threads) }
 {
     match call {
-        Call::RefInc => ref_inc(state, threads),
+        Call::RefInc => Ok(ref_inc(state, threads)),
         Call::RefDec => ref_dec(active, state, threads),
         Call::GetMut => get_mut(active, state, threads),
         Call::StrongCount => strong_count(active, state, threads),

@@ -6,8 +6,7 @@ ghost use Rattle.rules.specs.Effect.{is_free, action_of, wait_of};
 ghost use Rattle.rules.specs.Object.{announced};
 
 use objects_record::{set_blocked, with_phase};
-use rules::condvar::Wait;
-use rules::object::Action;
+use rules::object::{Action, ObjectId};
 use rules::table::Call;
 use rules::thread::{Phase, Thread};
 
@@ -52,16 +51,16 @@ pub fn action_of(call: Call) -> Action
 }
 
 // The mutex of a condvar wait.
-pub fn wait_of(call: Call) -> Wait
+pub fn wait_of(call: Call) -> Option<ObjectId>
     ensures { result ≡ wait_of call }
 {
     match call {
         Call::Condvar(c) => objects_condvar::wait_of(c),
-        Call::Mutex(_) => Wait::Nowhere,
-        Call::RwLock(_) => Wait::Nowhere,
-        Call::Notify(_) => Wait::Nowhere,
-        Call::Channel(_) => Wait::Nowhere,
-        Call::Arc(_) => Wait::Nowhere,
-        Call::Cell(_) => Wait::Nowhere,
+        Call::Mutex(_) => None,
+        Call::RwLock(_) => None,
+        Call::Notify(_) => None,
+        Call::Channel(_) => None,
+        Call::Arc(_) => None,
+        Call::Cell(_) => None,
     }
 }

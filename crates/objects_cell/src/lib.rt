@@ -1,19 +1,16 @@
 // loom's rt/cell.rs.
 #![tactic(auto)]
 
-ghost use Rattle.std.specs.Prelude.{◌≡◌, []};
-ghost use Rattle.rules.specs.Ground.{does, fails};
-ghost use Rattle.rules.specs.declared.thread.Answered.TheVariants.{Kept};
+ghost use Rattle.std.specs.Prelude.{◌≡◌};
+ghost use Rattle.rules.specs.Ground.{outcome};
 ghost use Rattle.rules.specs.declared.cell.Call.TheVariants.{StartRead, EndRead, StartWrite, EndWrite};
-ghost use Rattle.rules.specs.Cell.{new, is_misuse, racing, first_race, track_read, track_write, read, written, left, effect};
+ghost use Rattle.rules.specs.Cell.{new, is_misuse, racing, track_read, track_write, read, written, effect};
 
 use clocks::{Ahead, Clock, THREADS, ThreadId};
-use objects_ground::count::{one_less, one_more};
-use objects_ground::ending::is_fine;
 use objects_threads::{get, own_count_up};
-use rules::cell::{Call, Effect, State};
-use rules::object::Ending;
-use rules::thread::{Answered, Thread};
+use rules::cell::{Call, State};
+use rules::object::{Effect, Failure};
+use rules::thread::Thread;
 
 pub fn new() -> State
     ensures { result ≡ new }
@@ -39,146 +36,141 @@ fn is_misuse(call: Call, state: State) -> bool
     }
 }
 
-fn racing(a: Ahead) -> Ending
-    ensures { result ≡ racing a }
+fn racing(ahead: Option<Ahead>) -> Result<(), Failure>
+    ensures { result ≡ racing ahead }
 {
-    match a {
-        Ahead::Nobody => Ending::Fine,
-        Ahead::Threads { mask: _, lowest } => Ending::Race(lowest),
+    match ahead {
+        None => Ok(()),
+        Some(a) => Err(Failure::Race(a.lowest)),
     }
 }
 
-// The first of two checks that fails.
-fn first_race(first: Ending, second: Ending) -> Ending
-    ensures { result ≡ first_race first second }
-{
-    if is_fine(first) { second } else { first }
-}
-
 // A read needs the write clock at most the thread's.
-fn track_read(clock: Clock, state: State) -> Ending
+#[tactic(auto, unfolding(rules::specs::Cell::track_read))]
+fn track_read(clock: Clock, state: State) -> Result<(), Failure>
     ensures { result ≡ track_read clock state }
 {
-    let write = state.write_access;
-    racing(clock.ahead(write))
+    racing(clock.ahead(state.write_access))
 }
 
 // A write checks the write clock, then the read clock.
-fn track_write(clock: Clock, state: State) -> Ending
+#[tactic(auto, unfolding(rules::specs::Cell::track_write, rules::specs::Cell::first_race))]
+fn track_write(clock: Clock, state: State) -> Result<(), Failure>
     ensures { result ≡ track_write clock state }
 {
-    let write = state.write_access;
-    let read = state.read_access;
-    first_race(racing(clock.ahead(write)), racing(clock.ahead(read)))
+    racing(clock.ahead(state.write_access))?;
+    racing(clock.ahead(state.read_access))
 }
 
 fn read(readers: u16, clock: Clock, state: State) -> State
     ensures { result ≡ read readers clock state }
 {
-    let mut s = state;
-    let was = state.read_access;
-    s.is_reading = readers;
-    s.read_access = was.join(clock);
-    s
+    State {
+        is_reading: readers,
+        read_access: state.read_access.join(clock),
+        ..state
+    }
 }
 
 fn written(writing: bool, clock: Clock, state: State) -> State
     ensures { result ≡ written writing clock state }
 {
-    let mut s = state;
-    let was = state.write_access;
-    s.is_writing = writing;
-    s.write_access = was.join(clock);
-    s
-}
-
-// A step that is misuse or races leaves the cell and the threads as they were.
-fn fails(ending: Ending, state: State, threads: [Thread; THREADS]) -> Effect
-    ensures { (active : ThreadId) → result ≡ left active (fails ending state) threads }
-{
-    Effect {
-        ending: ending,
-        answer: Answered::Kept,
-        state: state,
-        threads: threads,
+    State {
+        is_writing: writing,
+        write_access: state.write_access.join(clock),
+        ..state
     }
 }
 
-fn accessed(state: State, threads: [Thread; THREADS]) -> Effect
-    ensures { (active : ThreadId) → result ≡ left active (does Kept state []) threads }
-{
-    Effect {
-        ending: Ending::Fine,
-        answer: Answered::Kept,
-        state: state,
-        threads: threads,
-    }
-}
-
-fn start_read(active: ThreadId, state: State, threads: [Thread; THREADS]) -> Effect
-    ensures { result ≡ effect StartRead active state threads }
+#[tactic(auto, unfolding(rules::specs::Cell::effect, rules::specs::Cell::doing, rules::specs::Cell::accessing))]
+fn start_read(
+    active: ThreadId,
+    state: State,
+    threads: [Thread; THREADS],
+) -> Result<Effect<State>, Failure>
+    ensures { result ≡ outcome (effect StartRead active state threads) }
 {
     if is_misuse(Call::StartRead, state) {
-        return fails(Ending::Misuse, state, threads);
+        return Err(Failure::Misuse);
     }
-    let own = get(threads, active).clock;
-    let clock = own.inc(active);
-    let track = track_read(clock, state);
-    if !is_fine(track) {
-        return fails(track, state, threads);
-    }
-    let raised = own_count_up(threads, active);
-    accessed(read(one_more(state.is_reading), clock, state), raised)
+    let clock = get(threads, active).clock.inc(active);
+    track_read(clock, state)?;
+    Ok(Effect {
+        answer: None,
+        state: read(state.is_reading.saturating_add(1), clock, state),
+        threads: own_count_up(threads, active),
+    })
 }
 
 // loom's drop of Reading.
-fn end_read(active: ThreadId, state: State, threads: [Thread; THREADS]) -> Effect
-    ensures { result ≡ effect EndRead active state threads }
+#[tactic(auto, unfolding(rules::specs::Cell::effect, rules::specs::Cell::doing, rules::specs::Cell::accessing))]
+fn end_read(
+    active: ThreadId,
+    state: State,
+    threads: [Thread; THREADS],
+) -> Result<Effect<State>, Failure>
+    ensures { result ≡ outcome (effect EndRead active state threads) }
 {
     if is_misuse(Call::EndRead, state) {
-        return fails(Ending::Misuse, state, threads);
+        return Err(Failure::Misuse);
     }
-    let own = get(threads, active).clock;
-    let track = track_read(own, state);
-    if !is_fine(track) {
-        return fails(track, state, threads);
-    }
-    accessed(read(one_less(state.is_reading), own, state), threads)
+    let clock = get(threads, active).clock;
+    track_read(clock, state)?;
+    Ok(Effect {
+        answer: None,
+        state: read(state.is_reading.saturating_sub(1), clock, state),
+        threads,
+    })
 }
 
-fn start_write(active: ThreadId, state: State, threads: [Thread; THREADS]) -> Effect
-    ensures { result ≡ effect StartWrite active state threads }
+#[tactic(auto, unfolding(rules::specs::Cell::effect, rules::specs::Cell::doing, rules::specs::Cell::accessing))]
+fn start_write(
+    active: ThreadId,
+    state: State,
+    threads: [Thread; THREADS],
+) -> Result<Effect<State>, Failure>
+    ensures { result ≡ outcome (effect StartWrite active state threads) }
 {
     if is_misuse(Call::StartWrite, state) {
-        return fails(Ending::Misuse, state, threads);
+        return Err(Failure::Misuse);
     }
-    let own = get(threads, active).clock;
-    let clock = own.inc(active);
-    let track = track_write(clock, state);
-    if !is_fine(track) {
-        return fails(track, state, threads);
-    }
-    let raised = own_count_up(threads, active);
-    accessed(written(true, clock, state), raised)
+    let clock = get(threads, active).clock.inc(active);
+    track_write(clock, state)?;
+    Ok(Effect {
+        answer: None,
+        state: written(true, clock, state),
+        threads: own_count_up(threads, active),
+    })
 }
 
 // loom's drop of Writing.
-fn end_write(active: ThreadId, state: State, threads: [Thread; THREADS]) -> Effect
-    ensures { result ≡ effect EndWrite active state threads }
+#[tactic(auto, unfolding(rules::specs::Cell::effect, rules::specs::Cell::doing, rules::specs::Cell::accessing))]
+fn end_write(
+    active: ThreadId,
+    state: State,
+    threads: [Thread; THREADS],
+) -> Result<Effect<State>, Failure>
+    ensures { result ≡ outcome (effect EndWrite active state threads) }
 {
     if is_misuse(Call::EndWrite, state) {
-        return fails(Ending::Misuse, state, threads);
+        return Err(Failure::Misuse);
     }
-    let own = get(threads, active).clock;
-    let track = track_write(own, state);
-    if !is_fine(track) {
-        return fails(track, state, threads);
-    }
-    accessed(written(false, own, state), threads)
+    let clock = get(threads, active).clock;
+    track_write(clock, state)?;
+    Ok(Effect {
+        answer: None,
+        state: written(false, clock, state),
+        threads,
+    })
 }
 
-pub fn effect(call: Call, active: ThreadId, state: State, threads: [Thread; THREADS]) -> Effect
-    ensures { result ≡ effect call active state threads }
+pub fn effect(
+    call: Call,
+    active: ThreadId,
+    state: State,
+    threads: [Thread; THREADS],
+) -> Result<Effect<State>, Failure>
+    ensures { result ≡ outcome (effect call active state threads) }
 {
     match call {
         Call::StartRead => start_read(active, state, threads),

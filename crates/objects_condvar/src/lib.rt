@@ -1,23 +1,19 @@
 // loom's rt/condvar.rs. The waiters stand oldest first.
 #![tactic(auto)]
 
-ghost use Rattle.std.specs.Prelude.{◌≡◌, [], ◌∷◌, ◌++◌, map, get_or, drop, take, replicate};
+ghost use Rattle.std.specs.Prelude.{◌≡◌, Ok, map, take};
 ghost use Rattle.rules.specs.declared.condvar.Call.TheVariants as call;
-ghost use Rattle.rules.specs.declared.object.ObjectId.{ObjectId};
-ghost use Rattle.rules.specs.Limits.{max_waiters};
-ghost use Rattle.rules.specs.Ground.{unparks, touched};
+ghost use Rattle.rules.specs.Ground.{unpark_thread, unparks, touched, outcome};
 ghost use Rattle.rules.specs.Condvar.{nobody, new, wait_of, set_last_access, effect};
 
 use clocks::{THREADS, ThreadId};
 use objects_ground::access;
+use objects_ground::queue::pop_front;
 use objects_threads::unpark_thread;
 use rules::access::Access;
-use rules::condvar::{Call, Effect, State, WAITERS, Wait};
-use rules::object::Ending;
-use rules::thread::{Answered, Thread};
-
-// The queue's last place.
-const LAST: usize = WAITERS - 1;
+use rules::condvar::{Call, State, WAITERS};
+use rules::object::{Effect, Failure, ObjectId};
+use rules::thread::Thread;
 
 // The filler of a place that no waiter has.
 fn nobody() -> ThreadId
@@ -26,108 +22,81 @@ fn nobody() -> ThreadId
     ThreadId(255)
 }
 
-fn no_waiters() -> [ThreadId; WAITERS]
-    ensures { result ≡ replicate max_waiters nobody }
-{
-    let filler = nobody();
-    [filler; WAITERS]
-}
-
 pub fn new() -> State
     ensures { result ≡ new }
 {
     State {
         last_access: access::new(),
         count: 0,
-        waiters: no_waiters(),
+        waiters: [nobody(); WAITERS],
     }
 }
 
 // The mutex of a wait.
-pub fn wait_of(call: Call) -> Wait
+pub fn wait_of(call: Call) -> Option<ObjectId>
     ensures { result ≡ wait_of call }
 {
     match call {
-        Call::Wait(mutex) => Wait::On(mutex),
-        Call::NotifyOne => Wait::Nowhere,
-        Call::NotifyAll => Wait::Nowhere,
+        Call::Wait(mutex) => Some(mutex),
+        Call::NotifyOne | Call::NotifyAll => None,
     }
 }
 
 pub fn set_last_access(access: Access, state: State) -> State
     ensures { result ≡ set_last_access access state }
 {
-    let mut next = state;
-    next.last_access = access;
-    next
+    State {
+        last_access: access,
+        ..state
+    }
 }
 
 // The first half of loom's wait: the active thread becomes the newest waiter, if there is room.
-fn wait(active: ThreadId, state: State, threads: [Thread; THREADS]) -> Effect
-    ensures { (mutex : ObjectId) → result ≡ effect (call.Wait mutex) active state threads }
+#[tactic(auto, unfolding(rules::specs::Condvar::doing, rules::specs::Condvar::effect))]
+fn wait(
+    active: ThreadId,
+    state: State,
+    threads: [Thread; THREADS],
+) -> Result<Effect<State>, Failure>
+    ensures { (mutex : ObjectId) → result ≡ outcome (effect (call.Wait mutex) active state threads) }
 {
     let n = state.count as usize;
-    let mut s = state;
-    if n < WAITERS {
-        s.waiters[n] = active;
-        s.count = state.count + 1;
-        return Effect {
-            ending: Ending::Fine,
-            answer: Answered::Kept,
-            state: s,
-            threads: threads,
-        };
+    if WAITERS <= n {
+        return Err(Failure::NoRoom);
     }
-    Effect {
-        ending: Ending::NoRoom,
-        answer: Answered::Kept,
-        state: state,
-        threads: threads,
-    }
-}
-
-// The oldest waiter.
-fn front(waiters: [ThreadId; WAITERS]) -> ThreadId
-    ensures { result ≡ get_or waiters 0 nobody }
-{
-    waiters[0]
-}
-
-// The waiters without the oldest: each moves up one place, and the last place is filled.
-fn pop_front(mut waiters: [ThreadId; WAITERS]) -> [ThreadId; WAITERS]
-    ensures { result ≡ drop 1 waiters ++ nobody ∷ [] }
-{
-    for k in 0..LAST {
-        let next = waiters[k + 1];
-        waiters[k] = next;
-    }
-    waiters[LAST] = nobody();
-    waiters
+    let mut waiters = state.waiters;
+    waiters[n] = active;
+    Ok(Effect {
+        answer: None,
+        state: State {
+            count: state.count + 1,
+            waiters,
+            ..state
+        },
+        threads,
+    })
 }
 
 // Removes and unparks the oldest waiter, if any.
-fn notify_one(active: ThreadId, state: State, threads: [Thread; THREADS]) -> Effect
-    ensures { result ≡ effect call.NotifyOne active state threads }
+#[tactic(auto, unfolding(rules::specs::Condvar::doing, rules::specs::Condvar::effect))]
+fn notify_one(active: ThreadId, state: State, threads: [Thread; THREADS]) -> Effect<State>
+    ensures { Ok result ≡ outcome (effect call.NotifyOne active state threads) }
 {
     if state.count == 0 {
         return Effect {
-            ending: Ending::Fine,
-            answer: Answered::Kept,
-            state: state,
-            threads: threads,
+            answer: None,
+            state,
+            threads,
         };
     }
-    let waiters = state.waiters;
-    let oldest = front(waiters);
-    let rest = pop_front(waiters);
-    let mut s = state;
-    s.waiters = rest;
-    s.count = state.count - 1;
     Effect {
-        ending: Ending::Fine,
-        answer: Answered::Kept,
-        state: s,
-        threads: unpark_thread(threads, active, oldest),
+        answer: None,
+        state: State {
+            count: state.count - 1,
+            waiters: pop_front(state.waiters, nobody()),
+            ..state
+        },
+        threads: unpark_thread(threads, active, state.waiters[0]),
     }
 }
 
@@ -140,41 +109,40 @@ fn unpark_each(
 ) -> [Thread; THREADS]
     ensures { result ≡ touched active (map unparks (take count waiters)) threads }
 {
-    let n = count as usize;
-    let mut out = threads;
-    let mut k = 0;
-    while k < n && k < WAITERS {
-        let id = waiters[k];
-        let next = unpark_thread(out, active, id);
-        out = next;
-        k += 1;
-    }
-    out
+    waiters.iter().take(count as usize).fold(
+        threads,
+        |out, &id|
+            ensures { result ≡ unpark_thread active id out }
+        { unpark_thread(out, active, id) },
+    )
 }
 
 // Removes and unparks every waiter.
-fn notify_all(active: ThreadId, state: State, threads: [Thread; THREADS]) -> Effect
-    ensures { result ≡ effect call.NotifyAll active state threads }
+#[tactic(auto, unfolding(rules::specs::Condvar::doing, rules::specs::Condvar::effect))]
+fn notify_all(active: ThreadId, state: State, threads: [Thread; THREADS]) -> Effect<State>
+    ensures { Ok result ≡ outcome (effect call.NotifyAll active state threads) }
 {
-    let waiters = state.waiters;
-    let emptied = no_waiters();
-    let mut s = state;
-    s.waiters = emptied;
-    s.count = 0;
     Effect {
-        ending: Ending::Fine,
-        answer: Answered::Kept,
-        state: s,
-        threads: unpark_each(active, state.count, waiters, threads),
+        answer: None,
+        state: State {
+            last_access: state.last_access,
+            ..new()
+        },
+        threads: unpark_each(active, state.count, state.waiters, threads),
     }
 }
 
-pub fn effect(call: Call, active: ThreadId, state: State, threads: [Thread; THREADS]) -> Effect
-    ensures { result ≡ effect call active state threads }
+pub fn effect(
+    call: Call,
+    active: ThreadId,
+    state: State,
+    threads: [Thread; THREADS],
+) -> Result<Effect<State>, Failure>
+    ensures { result ≡ outcome (effect call active state threads) }
 {
     match call {
         Call::Wait(_) => wait(active, state, threads),
-        Call::NotifyOne => notify_one(active, state, threads),
-        Call::NotifyAll => notify_all(active, state, threads),
+        Call::NotifyOne => Ok(notify_one(active, state, threads)),
+        Call::NotifyAll => Ok(notify_all(active, state, threads)),
     }
 }

@@ -5,13 +5,13 @@ ghost use Rattle.clocks.specs.Clock.{risen};
 pub fn one_more(n: u16) -> u16
     ensures { result ≡ risen 65535 n }
 {
-    if n < 65535 { n + 1 } else { n }
+    n.saturating_add(1)
 }
 
 pub fn one_less(n: u16) -> u16
     ensures { result ≡ n - 1 }
 {
-    if 0 < n { n - 1 } else { 0 }
+    n.saturating_sub(1)
 }
 
 // A thread's position after one operation more.

@@ -2,15 +2,10 @@
 ghost use Rattle.std.specs.Prelude.{◌≡◌};
 ghost use Rattle.rules.specs.Ground.{is_fine};
 
-use rules::object::Ending;
+use rules::object::Failure;
 
-pub fn is_fine(e: Ending) -> bool
+pub fn is_fine(e: Result<(), Failure>) -> bool
     ensures { result ≡ is_fine e }
 {
-    match e {
-        Ending::Fine => true,
-        Ending::Misuse => false,
-        Ending::NoRoom => false,
-        Ending::Race(_) => false,
-    }
+    e.is_ok()
 }

@@ -1,35 +1,26 @@
 // loom's rt/mutex.rs.
 #![tactic(auto)]
 
-ghost use Rattle.std.specs.Prelude.{◌≡◌};
-ghost use Rattle.rules.specs.declared.mutex.Call.TheVariants.{ReleaseLock};
-ghost use Rattle.rules.specs.Ground.{leaves};
-ghost use Rattle.rules.specs.Mutex.{new, is_locked, is_free, is_disabled, set_last_access, taking, acquiring, left, effect};
+ghost use Rattle.std.specs.Prelude.{◌≡◌, Ok};
+ghost use Rattle.objects_ground.specs.Barred.{barring};
+ghost use Rattle.rules.specs.Ground.{thread_at, left, outcome};
+ghost use Rattle.rules.specs.Mutex.{new, is_free, is_disabled, set_last_access, taking, acquiring, releasing, effect};
 
 use clocks::{Clock, THREADS, ThreadId};
 use objects_ground::access;
 use objects_threads::{others, sync_load, sync_store};
 use rules::access::Access;
-use rules::mutex::{Call, Effect, Lock, State};
-use rules::object::{Ending, ObjectId};
-use rules::thread::{Answered, Change, Thread};
+use rules::mutex::{Call, State};
+use rules::object::{Effect, Failure, ObjectId};
+use rules::thread::{Change, Thread};
 
 pub fn new() -> State
     ensures { result ≡ new }
 {
     State {
-        lock: Lock::Free,
+        lock: None,
         last_access: access::new(),
         synchronize: Clock::new(),
-    }
-}
-
-fn is_locked(lock: Lock) -> bool
-    ensures { result ≡ is_locked lock }
-{
-    match lock {
-        Lock::Free => false,
-        Lock::Held(_) => true,
     }
 }
 
@@ -37,81 +28,68 @@ fn is_locked(lock: Lock) -> bool
 pub fn is_free(call: Call) -> bool
     ensures { result ≡ is_free call }
 {
-    match call {
-        Call::AcquireLock => false,
-        Call::TryAcquireLock => false,
-        Call::ReleaseLock => true,
-    }
+    matches!(call, Call::ReleaseLock)
 }
 
 // An announced acquire blocks if the mutex is held.
 pub fn is_disabled(call: Call, state: State) -> bool
     ensures { result ≡ is_disabled call state }
 {
-    let lock = state.lock;
     match call {
-        Call::AcquireLock => is_locked(lock),
-        Call::TryAcquireLock => false, // It fails at its effect.
-        Call::ReleaseLock => false,
+        Call::AcquireLock => state.lock.is_some(),
+        Call::TryAcquireLock | Call::ReleaseLock => false, // A try fails at its effect.
     }
 }
 
 pub fn set_last_access(access: Access, state: State) -> State
     ensures { result ≡ set_last_access access state }
 {
-    let mut next = state;
-    next.last_access = access;
-    next
+    State {
+        last_access: access,
+        ..state
+    }
 }
 
 // The free mutex is taken: loads, and blocks every other thread that is announced on it.
 fn post_acquire(
     active: ThreadId,
     object: ObjectId,
-    answer: Answered,
+    answer: Option<u16>,
     state: State,
     threads: [Thread; THREADS],
-) -> Effect
-    ensures { result ≡ left active (taking active object answer state) threads }
+) -> Effect<State>
+    ensures { Ok result ≡ outcome (left active (taking active object answer state) threads) }
 {
-    let lock = Lock::Held(active);
-    let last_access = state.last_access;
-    let synchronize = state.synchronize;
-    let loaded = sync_load(threads, active, synchronize);
+    let loaded = sync_load(threads, active, state.synchronize);
     Effect {
-        ending: Ending::Fine,
-        answer: answer,
+        answer,
         state: State {
-            lock: lock,
-            last_access: last_access,
-            synchronize: synchronize,
+            lock: Some(active),
+            ..state
         },
         threads: others(loaded, Change::Block, active, object),
     }
 }
 
-// Taken if the mutex is free, with the answer `taken`; on one that is held nothing changes but the ending and the answer.
+// Taken if the mutex is free, with the answer `taken`; on one that is held nothing changes but the answer, as `barred` says.
 fn acquire_lock(
     active: ThreadId,
     object: ObjectId,
-    taken: Answered,
-    barred: Ending,
-    refused: Answered,
+    taken: Option<u16>,
+    barred: Result<Option<u16>, Failure>,
     state: State,
     threads: [Thread; THREADS],
-) -> Effect
-    ensures { result ≡ left active (acquiring active object taken (leaves barred refused state) state) threads }
+) -> Result<Effect<State>, Failure>
+    ensures { result ≡ outcome (left active (acquiring active object taken (barring barred state) state) threads) }
 {
-    let lock = state.lock;
-    if is_locked(lock) {
-        return Effect {
-            ending: barred,
-            answer: refused,
-            state: state,
-            threads: threads,
-        };
+    if state.lock.is_some() {
+        return Ok(Effect {
+            answer: barred?,
+            state,
+            threads,
+        });
     }
-    post_acquire(active, object, taken, state, threads)
+    Ok(post_acquire(active, object, taken, state, threads))
 }
 
 // Clears whoever holds the mutex, stores, and wakes every other thread that is announced on it.
@@ -120,53 +98,40 @@ fn release_lock(
     object: ObjectId,
     state: State,
     threads: [Thread; THREADS],
-) -> Effect
-    ensures { result ≡ effect ReleaseLock active object state threads }
+) -> Effect<State>
+    ensures { Ok result ≡ outcome (left active (releasing object (thread_at threads active).clock state) threads) }
 {
-    let lock = Lock::Free;
-    let last_access = state.last_access;
-    let clock = state.synchronize;
-    let stored = sync_store(threads, active, clock);
     Effect {
-        ending: Ending::Fine,
-        answer: Answered::Kept,
+        answer: None,
         state: State {
-            lock: lock,
-            last_access: last_access,
-            synchronize: stored,
+            lock: None,
+            synchronize: sync_store(threads, active, state.synchronize),
+            ..state
         },
         threads: others(threads, Change::Wake, active, object),
     }
 }
 
+#[tactic(auto, unfolding(rules::specs::Mutex::effect, rules::specs::Mutex::doing))]
 pub fn effect(
     call: Call,
     active: ThreadId,
     object: ObjectId,
     state: State,
     threads: [Thread; THREADS],
-) -> Effect
-    ensures { result ≡ effect call active object state threads }
+) -> Result<Effect<State>, Failure>
+    ensures { result ≡ outcome (effect call active object state threads) }
 {
     match call {
         Call::AcquireLock => acquire_lock(
             active,
             object,
-            Answered::Kept,
-            Ending::Misuse,
-            Answered::Kept,
+            None,
+            Err(Failure::Misuse),
             state,
             threads,
         ),
-        Call::TryAcquireLock => acquire_lock(
-            active,
-            object,
-            Answered::Left(1),
-            Ending::Fine,
-            Answered::Left(0),
-            state,
-            threads,
-        ),
-        Call::ReleaseLock => release_lock(active, object, state, threads),
+        Call::TryAcquireLock => acquire_lock(active, object, Some(1), Ok(Some(0)), state, threads),
+        Call::ReleaseLock => Ok(release_lock(active, object, state, threads)),
     }
 }

@@ -10,24 +10,21 @@ use clocks::{THREADS, ThreadId};
 fn reader_bit(id: ThreadId) -> u16
     ensures { result ≡ reader_bit id }
 {
-    let i = id.0 as usize;
-    if i < THREADS {
-        return 1u16 << i;
+    if usize::from(id.0) < THREADS {
+        1 << id.0
+    } else {
+        0
     }
-    0
 }
 
 fn is_reader(readers: u16, id: ThreadId) -> bool
     ensures { result ≡ is_reader readers id }
 {
-    let i = id.0 as usize;
-    if i < THREADS {
-        return (readers >> i) % 2 == 1;
-    }
-    false
+    readers & reader_bit(id) != 0
 }
 
 // A set: a thread that is in it already is not counted again.
+#[tactic(auto, unfolding(rules::specs::RwLock::with_reader))]
 pub fn with_reader(readers: u16, id: ThreadId) -> u16
     ensures { result ≡ with_reader readers id }
 {
@@ -37,6 +34,7 @@ pub fn with_reader(readers: u16, id: ThreadId) -> u16
     readers + reader_bit(id)
 }
 
+#[tactic(auto, using(rules::proofs::RwLockLaws::member_bit), unfolding(rules::specs::RwLock::without_reader))]
 pub fn without_reader(readers: u16, id: ThreadId) -> u16
     ensures { result ≡ without_reader readers id }
 {

@@ -25,33 +25,13 @@ pub fn absent() -> Thread
 pub fn with_state(t: Thread, s: State) -> Thread
     ensures { result ≡ with_state t s }
 {
-    let phase = t.phase;
-    let clock = t.clock;
-    let dependence = t.dependence;
-    Thread {
-        state: s,
-        phase: phase,
-        position: t.position,
-        last_answer: t.last_answer,
-        clock: clock,
-        dependence: dependence,
-    }
+    Thread { state: s, ..t }
 }
 
 pub fn with_phase(t: Thread, p: Phase) -> Thread
     ensures { result ≡ with_phase t p }
 {
-    let state = t.state;
-    let clock = t.clock;
-    let dependence = t.dependence;
-    Thread {
-        state: state,
-        phase: p,
-        position: t.position,
-        last_answer: t.last_answer,
-        clock: clock,
-        dependence: dependence,
-    }
+    Thread { phase: p, ..t }
 }
 
 // Drops a stored unpark.
@@ -72,8 +52,7 @@ fn unpark_state(s: State) -> State
     ensures { result ≡ unpark_state s }
 {
     match s {
-        State::Runnable => State::Unparked,
-        State::Unparked => State::Unparked,
+        State::Runnable | State::Unparked => State::Unparked,
         State::Blocked => State::Runnable,
         State::Ended => State::Ended,
     }
@@ -83,44 +62,29 @@ fn unpark_state(s: State) -> State
 pub fn unpark(t: Thread, by: Clock) -> Thread
     ensures { result ≡ unpark by t }
 {
-    let state = t.state;
-    let clock = t.clock;
-    let mut u = with_state(t, unpark_state(state));
-    u.clock = clock.join(by);
-    u
+    Thread {
+        state: unpark_state(t.state),
+        clock: t.clock.join(by),
+        ..t
+    }
 }
 
 pub fn is_runnable(s: State) -> bool
     ensures { result ≡ is_runnable s }
 {
-    match s {
-        State::Runnable => true,
-        State::Unparked => true,
-        State::Blocked => false, // Until another thread wakes it.
-        State::Ended => false,
-    }
+    matches!(s, State::Runnable | State::Unparked)
 }
 
 pub fn has_unpark(s: State) -> bool
     ensures { result ≡ has_unpark s }
 {
-    match s {
-        State::Unparked => true, // The one state that has it.
-        State::Runnable => false, // It stores none until it is unparked.
-        State::Blocked => false,
-        State::Ended => false,
-    }
+    matches!(s, State::Unparked)
 }
 
 pub fn is_ended(s: State) -> bool
     ensures { result ≡ is_ended s }
 {
-    match s {
-        State::Runnable => false,
-        State::Unparked => false,
-        State::Blocked => false,
-        State::Ended => true,
-    }
+    matches!(s, State::Ended)
 }
 
 // Whether a phase announces an operation on the object.
@@ -128,9 +92,7 @@ pub fn is_on(p: Phase, object: ObjectId) -> bool
     ensures { result ≡ is_on object p }
 {
     match p {
-        Phase::Nothing => false,
-        Phase::Announced(op) => op.obj.0 == object.0,
-        Phase::Parked => false,
-        Phase::Retaking(op) => op.obj.0 == object.0,
+        Phase::Announced(op) | Phase::Retaking(op) => op.obj == object,
+        Phase::Nothing | Phase::Parked => false,
     }
 }

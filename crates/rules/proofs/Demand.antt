@@ -1,12 +1,11 @@
 -- Demand 3 leaves one answer.
-use Rattle.std.specs.Prelude.{◌≡◌, List, ℕ}
+use Rattle.std.specs.Prelude.{◌≡◌, List, ℕ, Err, Ok, Option}
 use Rattle.std.proofs.Common.{sym, ◌∙◌, ap}
-use Rattle.std.proofs.Math.Option.{Option}
 use Rattle.lists.proofs.Rules as lists
 use Rattle.lists.specs.Judge.{Judged, not_allowed, surplus, unfinished, verdict, judge}
 use Rattle.rules.specs.declared.table.Table.{Table}
 use Rattle.rules.specs.declared.world.World.{World}
-use Rattle.rules.specs.Table.{Read, refused, accepted, read_table}
+use Rattle.rules.specs.Table.{Read, read_table}
 use Rattle.rules.specs.Turn.{start}
 use Rattle.rules.specs.Judge.{Verdict, step, Given}
 use Rattle.rules.specs.Walk.{hand_over, next_list}
@@ -17,8 +16,8 @@ pub first_agrees : (table buffer : List ℕ) (g h : Given) → First table buffe
 first_agrees table buffer g h = go (read_table table)
   where
     go : (r : Read) → FirstMust r buffer g → FirstMust r buffer h → g ≡ h
-    go (refused a) p q = p ∙ sym q
-    go (accepted t) p q = p.2 ∙ ap (λ (m : List ℕ). hand_over m buffer) (lists.first_unique (step t) (start t) p.0 q.0 p.1 q.1) ∙ sym q.2
+    go (Err a) p q = p ∙ sym q
+    go (Ok t) p q = p.2 ∙ ap (λ (m : List ℕ). hand_over m buffer) (lists.first_unique (step t) (start t) p.0 q.0 p.1 q.1) ∙ sym q.2
 
 pub next_agrees : (table list buffer : List ℕ) (g h : Given) → Next table list buffer g → Next table list buffer h → g ≡ h
 next_agrees table list buffer g h = go (read_table table)
@@ -30,5 +29,5 @@ next_agrees table list buffer g h = go (read_table table)
     by_list t (verdict v) p q = p.2 ∙ ap (λ (r : Option (List ℕ)). next_list r buffer) (lists.answers_unique (step t) (start t) list p.0 q.0 p.1 q.1) ∙ sym q.2
 
     go : (r : Read) → NextMust r list buffer g → NextMust r list buffer h → g ≡ h
-    go (refused a) p q = p ∙ sym q
-    go (accepted t) p q = by_list t (judge (step t) 0 (start t) list) p q
+    go (Err a) p q = p ∙ sym q
+    go (Ok t) p q = by_list t (judge (step t) 0 (start t) list) p q

@@ -1,5 +1,5 @@
 -- "A list is complete when it gives 0 to 5": the definition of completeness and the judge's number say the same.
-use Rattle.std.specs.Prelude.{◌≡◌, refl, ◌↔◌, List, [], ◌∷◌, ℕ, suc, ◌≤◌, T, length}
+use Rattle.std.specs.Prelude.{◌≡◌, refl, ◌↔◌, List, [], ◌∷◌, ℕ, suc, ◌≤◌, T, length, Ok}
 use Rattle.std.proofs.Common.{sym, subst, arith, le-leb}
 use Rattle.lists.specs.Judge.{Judged, not_allowed, surplus, unfinished, verdict, judge_at, is_verdict, judge}
 use Rattle.lists.proofs.Judge.{judge-complete}
@@ -9,7 +9,6 @@ use Rattle.rules.specs.declared.world.World.{World}
 use Rattle.rules.specs.declared.world.Step.{Step}
 use Rattle.rules.specs.declared.world.Step.TheVariants.{Refused, Done, Wants}
 use Rattle.rules.specs.Answer.{numbers_of}
-use Rattle.rules.specs.Table.{accepted}
 use Rattle.rules.specs.Turn.{decide, start}
 use Rattle.rules.proofs.TurnLaws.{verdict_number}
 use Rattle.rules.specs.Sheet.{sheet_length}
@@ -47,11 +46,11 @@ shown_iff table (unfinished w) buffer t = (λ f. absurd f, λ h. omega arith)
 shown_iff table (verdict v) buffer t = (λ f. t, λ h. tt)
 
 fits_shown : (table : Table) (list buffer : List ℕ) → sheet_length table ≤ length buffer
-    → judge_table (accepted table) list buffer ≡ shown table (judge (step table) 0 (start table) list) buffer
+    → judge_table (Ok table) list buffer ≡ shown table (judge (step table) 0 (start table) list) buffer
 unfolding judge_table
 fits_shown table list buffer h = rw (judge_table, le-leb (sheet_length table) (length buffer) h)
 
-pub complete_iff : (table : Table) (list buffer : List ℕ) → sheet_length table ≤ length buffer → Complete table list ↔ (number (judge_table (accepted table) list buffer).answer ≤ 5)
+pub complete_iff : (table : Table) (list buffer : List ℕ) → sheet_length table ≤ length buffer → Complete table list ↔ (number (judge_table (Ok table) list buffer).answer ≤ 5)
 complete_iff table list buffer h =
     let e = judge-complete (step table) 0 (start table) list in
     let i = shown_iff table (judge (step table) 0 (start table) list) buffer (judge_told table 0 (start table) list) in

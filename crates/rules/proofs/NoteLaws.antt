@@ -1,7 +1,7 @@
 -- No operation reads or changes the accesses that are recorded, so that its own may be recorded after its effect as well as before it.
 --     effect_note       the access recorded after the effect          effect_depends    the access that it depends on is then still the same
 --     operate-after     an announced operation, its effect first
-use Rattle.std.specs.Prelude.{◌≡◌, List, ℕ, eqb, ltb}
+use Rattle.std.specs.Prelude.{◌≡◌, List, ℕ, eqb, ltb, None, Option, Some}
 use Rattle.std.proofs.Math.Path.{refl, ap}
 use Rattle.std.proofs.Common.{sym, ◌∙◌}
 use Rattle.clocks.specs.Clock.{join_of, inc_of}
@@ -16,7 +16,7 @@ use Rattle.rules.specs.declared.mutex.State.{State as MutexState}
 use Rattle.rules.specs.declared.rwlock.Call.{Call as RwLockCall}
 use Rattle.rules.specs.declared.rwlock.Call.TheVariants as rwlock-call
 use Rattle.rules.specs.declared.rwlock.Locked.{Locked}
-use Rattle.rules.specs.declared.rwlock.Locked.TheVariants.{Free, Read, Write}
+use Rattle.rules.specs.declared.rwlock.Locked.TheVariants.{Read, Write}
 use Rattle.rules.specs.declared.rwlock.State.{State as RwLockState}
 use Rattle.rules.specs.declared.condvar.Call.{Call as CondvarCall}
 use Rattle.rules.specs.declared.condvar.Call.TheVariants as condvar-call
@@ -66,23 +66,23 @@ module _ (t : ThreadId) (o : ObjectId) (by : Clock) where
   mutex_noted mutex-call.TryAcquireLock x s = split (mutex.is_locked s.lock) (λ h. rw (mutex.doing, mutex.acquiring, h)) (λ h. rw (mutex.doing, mutex.acquiring, h))
   mutex_noted mutex-call.ReleaseLock x s = refl
 
-  rwlock_noted : (c : RwLockCall) (x : Access) (s : RwLockState) (l : Locked) → s.lock ≡ l → rwlock.doing c t o by (rwlock.set_last_access x s) ≡ in_state (rwlock.set_last_access x) (rwlock.doing c t o by s)
+  rwlock_noted : (c : RwLockCall) (x : Access) (s : RwLockState) (l : Option Locked) → s.lock ≡ l → rwlock.doing c t o by (rwlock.set_last_access x s) ≡ in_state (rwlock.set_last_access x) (rwlock.doing c t o by s)
   unfolding rwlock.doing
-  rwlock_noted rwlock-call.AcquireReadLock x s Free h = rw (rwlock.doing, h)
-  rwlock_noted rwlock-call.AcquireReadLock x s (Read mask) h = rw (rwlock.doing, h)
-  rwlock_noted rwlock-call.AcquireReadLock x s (Write u) h = rw (rwlock.doing, h)
-  rwlock_noted rwlock-call.AcquireWriteLock x s Free h = rw (rwlock.doing, h)
-  rwlock_noted rwlock-call.AcquireWriteLock x s (Read mask) h = rw (rwlock.doing, h)
-  rwlock_noted rwlock-call.AcquireWriteLock x s (Write u) h = rw (rwlock.doing, h)
-  rwlock_noted rwlock-call.TryAcquireReadLock x s Free h = rw (rwlock.doing, h)
-  rwlock_noted rwlock-call.TryAcquireReadLock x s (Read mask) h = rw (rwlock.doing, h)
-  rwlock_noted rwlock-call.TryAcquireReadLock x s (Write u) h = rw (rwlock.doing, h)
-  rwlock_noted rwlock-call.TryAcquireWriteLock x s Free h = rw (rwlock.doing, h)
-  rwlock_noted rwlock-call.TryAcquireWriteLock x s (Read mask) h = rw (rwlock.doing, h)
-  rwlock_noted rwlock-call.TryAcquireWriteLock x s (Write u) h = rw (rwlock.doing, h)
-  rwlock_noted rwlock-call.ReleaseReadLock x s Free h = rw (rwlock.doing, h)
-  rwlock_noted rwlock-call.ReleaseReadLock x s (Read mask) h = split (eqb (rwlock.without_reader mask t) 0) (λ z. rw (rwlock.doing, h, rwlock.leaving, z)) (λ z. rw (rwlock.doing, h, rwlock.leaving, z))
-  rwlock_noted rwlock-call.ReleaseReadLock x s (Write u) h = rw (rwlock.doing, h)
+  rwlock_noted rwlock-call.AcquireReadLock x s None h = rw (rwlock.doing, h)
+  rwlock_noted rwlock-call.AcquireReadLock x s (Some (Read mask)) h = rw (rwlock.doing, h)
+  rwlock_noted rwlock-call.AcquireReadLock x s (Some (Write u)) h = rw (rwlock.doing, h)
+  rwlock_noted rwlock-call.AcquireWriteLock x s None h = rw (rwlock.doing, h)
+  rwlock_noted rwlock-call.AcquireWriteLock x s (Some (Read mask)) h = rw (rwlock.doing, h)
+  rwlock_noted rwlock-call.AcquireWriteLock x s (Some (Write u)) h = rw (rwlock.doing, h)
+  rwlock_noted rwlock-call.TryAcquireReadLock x s None h = rw (rwlock.doing, h)
+  rwlock_noted rwlock-call.TryAcquireReadLock x s (Some (Read mask)) h = rw (rwlock.doing, h)
+  rwlock_noted rwlock-call.TryAcquireReadLock x s (Some (Write u)) h = rw (rwlock.doing, h)
+  rwlock_noted rwlock-call.TryAcquireWriteLock x s None h = rw (rwlock.doing, h)
+  rwlock_noted rwlock-call.TryAcquireWriteLock x s (Some (Read mask)) h = rw (rwlock.doing, h)
+  rwlock_noted rwlock-call.TryAcquireWriteLock x s (Some (Write u)) h = rw (rwlock.doing, h)
+  rwlock_noted rwlock-call.ReleaseReadLock x s None h = rw (rwlock.doing, h)
+  rwlock_noted rwlock-call.ReleaseReadLock x s (Some (Read mask)) h = split (eqb (rwlock.without_reader mask t) 0) (λ z. rw (rwlock.doing, h, rwlock.leaving, z)) (λ z. rw (rwlock.doing, h, rwlock.leaving, z))
+  rwlock_noted rwlock-call.ReleaseReadLock x s (Some (Write u)) h = rw (rwlock.doing, h)
   rwlock_noted rwlock-call.ReleaseWriteLock x s l h = refl
 
   condvar_noted : (c : CondvarCall) (x : Access) (s : CondvarState) → condvar.doing c t (condvar.set_last_access x s) ≡ in_state (condvar.set_last_access x) (condvar.doing c t s)
@@ -104,10 +104,10 @@ module _ (t : ThreadId) (o : ObjectId) (by : Clock) where
   channel_noted mpsc-call.Send a b s = split (ltb s.msg_cnt max_messages) (λ h. rw (mpsc.doing, h)) (λ h. rw (mpsc.doing, h))
   channel_noted mpsc-call.Recv a b s = split (mpsc.is_empty s) (λ h. rw (mpsc.doing, h)) (λ h. rw (mpsc.doing, h))
 
-  abbrev arc_noted : Access → Access → Access → RefModify → ArcState → ArcState
+  abbrev arc_noted : Access → Access → Access → Option RefModify → ArcState → ArcState
   arc_noted i d n m s = arc.with_accesses s i d n m
 
-  arc_noted_lem : (c : ArcCall) (i d n : Access) (m : RefModify) (s : ArcState) → arc.doing c by (arc_noted i d n m s) ≡ in_state (arc_noted i d n m) (arc.doing c by s)
+  arc_noted_lem : (c : ArcCall) (i d n : Access) (m : Option RefModify) (s : ArcState) → arc.doing c by (arc_noted i d n m s) ≡ in_state (arc_noted i d n m) (arc.doing c by s)
   unfolding arc.doing
   arc_noted_lem arc-call.RefInc i d n m s = refl
   arc_noted_lem arc-call.RefDec i d n m s = split (eqb s.ref_cnt 0) (λ h. rw (arc.doing, h)) (λ h. rw (arc.doing, h))
@@ -136,14 +136,14 @@ module _ (t : ThreadId) (o : ObjectId) (by : Clock) where
   arc_set a c x s u = in_state (λ v. arc.set_last_access a x u) (arc.doing c by s)
 
   arc_set_lem : (a : ArcAction) (c : ArcCall) (x : Access) (s : ArcState) → arc.doing c by (arc.set_last_access a x s) ≡ in_state (arc.set_last_access a x) (arc.doing c by s)
-  arc_set_lem arc-action.RefInc c x s = arc_noted_lem c x s.last_ref_dec s.last_ref_inspect modify.RefInc s ∙ sym (ap (arc_set arc-action.RefInc c x s) (arc_kept c s))
-  arc_set_lem arc-action.RefDec c x s = arc_noted_lem c s.last_ref_inc x s.last_ref_inspect modify.RefDec s ∙ sym (ap (arc_set arc-action.RefDec c x s) (arc_kept c s))
+  arc_set_lem arc-action.RefInc c x s = arc_noted_lem c x s.last_ref_dec s.last_ref_inspect (Some modify.RefInc) s ∙ sym (ap (arc_set arc-action.RefInc c x s) (arc_kept c s))
+  arc_set_lem arc-action.RefDec c x s = arc_noted_lem c s.last_ref_inc x s.last_ref_inspect (Some modify.RefDec) s ∙ sym (ap (arc_set arc-action.RefDec c x s) (arc_kept c s))
   arc_set_lem arc-action.Inspect c x s = arc_noted_lem c s.last_ref_inc s.last_ref_dec x s.last_ref_modification s ∙ sym (ap (arc_set arc-action.Inspect c x s) (arc_kept c s))
 
-  modified : (m : RefModify) (s u : ArcState) → arc.last_modification m (arc_as s u) ≡ arc.last_modification m s
-  modified modify.Nothing s u = refl
-  modified modify.RefInc s u = refl
-  modified modify.RefDec s u = refl
+  modified : (m : Option RefModify) (s u : ArcState) → arc.last_modification m (arc_as s u) ≡ arc.last_modification m s
+  modified None s u = refl
+  modified (Some modify.RefInc) s u = refl
+  modified (Some modify.RefDec) s u = refl
 
   arc_depends : (a : ArcAction) (c : ArcCall) (s : ArcState) → arc.last_dependent_access a (arc.doing c by s).state ≡ arc.last_dependent_access a s
   arc_depends arc-action.RefInc c s = ap (arc.last_dependent_access arc-action.RefInc) (arc_kept c s)

@@ -1,5 +1,5 @@
 -- A sheet's length is what its table says, and at most 1,766. How a sheet is written, a record after the other.
-use Rattle.std.specs.Prelude.{◌≡◌, refl, List, [], ◌∷◌, ◌++◌, map, ℕ, zero, suc, ◌+◌, ◌*◌, ◌≤◌, ◌<◌, length, get_or, set, take, drop}
+use Rattle.std.specs.Prelude.{◌≡◌, refl, List, [], ◌∷◌, ◌++◌, map, ℕ, zero, suc, ◌+◌, ◌*◌, ◌≤◌, ◌<◌, length, get_or, set, take, drop, Ok}
 use Rattle.std.proofs.Common.{sym, ◌∙◌, ap, append_assoc, append-nil, mul-zero, mul-suc, not-suc-le-zero, le_of_suc-le-suc, add-one, arith, length-append, length-take}
 use Rattle.std.proofs.lemmas.List.Edits.{sets, sets-eq}
 use Rattle.clocks.specs.Lists.{sets_then}
@@ -16,7 +16,7 @@ use Rattle.rules.specs.declared.table.Table.{Table}
 use Rattle.rules.specs.declared.world.World.{World}
 use Rattle.rules.specs.Ground.{absent}
 use Rattle.rules.specs.Object.{new_entry}
-use Rattle.rules.specs.Table.{read_table, accepted}
+use Rattle.rules.specs.Table.{read_table}
 use Rattle.rules.proofs.TableLaws.{read-within}
 use Rattle.rules.specs.Judge.{over}
 use Rattle.rules.specs.Sheet.{filled, each, clock_bytes, number, thread_bytes, mutex_bytes, rwlock_bytes, condvar_bytes, notify_bytes, channel_bytes, arc_bytes, cell_bytes, object_bytes, objects_bytes, sheet_of, record_length, objects_length, sheet_length}
@@ -81,7 +81,7 @@ pub first_small : (ms : List Made) (k : ℕ) → objects_length (take k ms) ≤ 
 first_small ms k = omega (arith, objects_small (take k ms), length-take k ms)
 
 -- "Never above 1,766 bytes."
-pub sheet_small : (bs : List ℕ) (table : Table) → read_table bs ≡ accepted table → sheet_length table ≤ max_sheet
+pub sheet_small : (bs : List ℕ) (table : Table) → read_table bs ≡ Ok table → sheet_length table ≤ max_sheet
 unfolding sheet_length
 sheet_small bs table e =
     let w = (read-within bs table e).0 in

@@ -1,5 +1,6 @@
 -- How a table is read, a record after the other; and an accepted one is within document 01's limits, as specs/TableLaws.antt has them.
-use Rattle.std.specs.Prelude.{◌≡◌, Bool, true, false, ◌&&◌, eqb, ltb, leb, length, set, drop, replicate}
+use Rattle.std.specs.Prelude.{◌≡◌, Bool, true, false, ◌&&◌, eqb, ltb, leb, length, set, drop, replicate, None, Option, Some, Err, Ok}
+use Rattle.rules.specs.declared.table.Record.{Record}
 use Rattle.std.proofs.Math.Path.{refl, ap, fun_ext}
 use Rattle.std.proofs.Common.{sym, ◌∙◌, arith, length-set, length-take, length-drop, drop_of_length-le, drop-cons, drop-drop, ltb-true, ltb-false, leb-true, eqb-true}
 use Rattle.std.proofs.lemmas.Bool.{false≢true, eqb-false}
@@ -12,14 +13,10 @@ use Rattle.rules.specs.Limits.{max_objects, max_operations, op_places}
 use Rattle.rules.specs.declared.table.Op.{Op}
 use Rattle.rules.specs.declared.table.Made.{Made}
 use Rattle.rules.specs.declared.table.Table.{Table}
-use Rattle.rules.specs.declared.table.Taken.TheVariants.{Accepted, Refused}
-use Rattle.rules.specs.declared.table.TableRead.{TableRead}
 use Rattle.rules.specs.declared.table.Record.TheVariants as rec
-use Rattle.rules.specs.declared.table.Parsed.{Parsed}
-use Rattle.rules.specs.declared.table.Parsed.TheVariants.{Whole, Bad}
 use Rattle.rules.specs.declared.answer.Answer.{Answer}
 use Rattle.rules.specs.declared.answer.Answer.TheVariants.{BadRecord, TooMany, BadObject}
-use Rattle.rules.specs.Table.{read_of, object_record, thread_record, operation_record, is_object, is_operation, Read, refused, accepted, last_count, objects_fine, with_object, with_thread, with_op, one_record, at_end, record_of, body_length, empty_table, read_from, read_table, ops_of}
+use Rattle.rules.specs.Table.{object_record, thread_record, operation_record, is_object, is_operation, Read, last_count, objects_fine, with_object, with_thread, with_op, one_record, at_end, record_of, body_length, empty_table, read_from, read_table, ops_of}
 use Rattle.rules.specs.TableLaws.{Within}
 
 -- a statement about a choice, by its test
@@ -70,35 +67,35 @@ operation_low k e = go (leb 0x30 k) refl e
 
 -- a record is judged first, and the rest is read from the table that it leaves
 abbrev pub and_then : Read → (Table → Read) → Read
-and_then (refused a) go = refused a
-and_then (accepted t) go = go t
+and_then (Err a) go = Err a
+and_then (Ok t) go = go t
 
-pub one_then : (at : ℕ) (t : Table) (r : Parsed) (go : Table → Read) → one_record at t r go ≡ and_then (one_record at t r accepted) go
+pub one_then : (at : ℕ) (t : Table) (r : Option Record) (go : Table → Read) → one_record at t r go ≡ and_then (one_record at t r Ok) go
 unfolding one_record object_record thread_record operation_record
-one_then at t (Whole (rec.Object m)) go = choose (eqb t.thread_count 0) (ltb t.object_count max_objects)
+one_then at t (Some (rec.Object m)) go = choose (eqb t.thread_count 0) (ltb t.object_count max_objects)
   where
     choose : (b c : Bool)
-        → elim b [ true ↦ elim c [ true ↦ go (with_object t m) | false ↦ refused (TooMany at) ] | false ↦ refused (BadRecord at) ]
-        ≡ and_then (elim b [ true ↦ elim c [ true ↦ accepted (with_object t m) | false ↦ refused (TooMany at) ] | false ↦ refused (BadRecord at) ]) go
+        → elim b [ true ↦ elim c [ true ↦ go (with_object t m) | false ↦ Err (TooMany at) ] | false ↦ Err (BadRecord at) ]
+        ≡ and_then (elim b [ true ↦ elim c [ true ↦ Ok (with_object t m) | false ↦ Err (TooMany at) ] | false ↦ Err (BadRecord at) ]) go
     choose true true = refl
     choose true false = refl
     choose false c = refl
-one_then at t (Whole rec.Thread) go = choose (ltb t.thread_count max_threads)
+one_then at t (Some rec.Thread) go = choose (ltb t.thread_count max_threads)
   where
     choose : (b : Bool)
-        → elim b [ true ↦ go (with_thread t) | false ↦ refused (TooMany at) ] ≡ and_then (elim b [ true ↦ accepted (with_thread t) | false ↦ refused (TooMany at) ]) go
+        → elim b [ true ↦ go (with_thread t) | false ↦ Err (TooMany at) ] ≡ and_then (elim b [ true ↦ Ok (with_thread t) | false ↦ Err (TooMany at) ]) go
     choose true = refl
     choose false = refl
-one_then at t (Whole (rec.Operation op)) go = choose (eqb t.thread_count 0) (ltb (last_count t) max_operations) (objects_fine t.objects op)
+one_then at t (Some (rec.Operation op)) go = choose (eqb t.thread_count 0) (ltb (last_count t) max_operations) (objects_fine t.objects op)
   where
     choose : (b c d : Bool)
-        → elim b [ true ↦ refused (BadRecord at) | false ↦ elim c [ true ↦ elim d [ true ↦ go (with_op t op) | false ↦ refused (BadObject at) ] | false ↦ refused (TooMany at) ] ]
-        ≡ and_then (elim b [ true ↦ refused (BadRecord at) | false ↦ elim c [ true ↦ elim d [ true ↦ accepted (with_op t op) | false ↦ refused (BadObject at) ] | false ↦ refused (TooMany at) ] ]) go
+        → elim b [ true ↦ Err (BadRecord at) | false ↦ elim c [ true ↦ elim d [ true ↦ go (with_op t op) | false ↦ Err (BadObject at) ] | false ↦ Err (TooMany at) ] ]
+        ≡ and_then (elim b [ true ↦ Err (BadRecord at) | false ↦ elim c [ true ↦ elim d [ true ↦ Ok (with_op t op) | false ↦ Err (BadObject at) ] | false ↦ Err (TooMany at) ] ]) go
     choose true c d = refl
     choose false true true = refl
     choose false true false = refl
     choose false false d = refl
-one_then at t Bad go = refl
+one_then at t None go = refl
 
 -- more than enough is as good as enough: the number only has to be at least the bytes left
 pub enough : (n m at : ℕ) (bs : List ℕ) (t : Table) → length bs ≤ n → length bs ≤ m → read_from n at bs t ≡ read_from m at bs t
@@ -132,7 +129,7 @@ module _ (bs : List ℕ) (at : ℕ) (t : Table) (r : Reading bs at t) where
 
   -- the record that begins at `at`, with what it leaves
   abbrev here : Read
-  here = one_record at t (record_of (get_or bs at 0) (drop (at + 1) bs)) accepted
+  here = one_record at t (record_of (get_or bs at 0) (drop (at + 1) bs)) Ok
 
   abbrev past : ℕ
   past = at + 1 + body_length (get_or bs at 0)
@@ -157,22 +154,11 @@ module _ (bs : List ℕ) (at : ℕ) (t : Table) (r : Reading bs at t) where
           ∙ ap (λ (l : List ℕ). and_then here (read_from (length bs) past l)) (drop-drop (body_length k) (at + 1) bs)
 
   -- as the code sees it: a record that is refused ends the reading, and any other leaves the table from which the rest is read
-  pub reading-stops : at < length bs → (read : TableRead) (a : Answer) → read ≡ read_of here → read.taken ≡ Refused a → read ≡ read_of (read_table bs)
-  reading-stops h read a e t = go here refl
-    where
-      go : (x : Read) → here ≡ x → read ≡ read_of (read_table bs)
-      go (refused b) q = e ∙ ap read_of (q ∙ sym (reading_one h ∙ ap (λ (y : Read). and_then y (read_from (length bs) past (drop past bs))) q))
-      go (accepted u) q = let p : read ≡ read_of (accepted u) = e ∙ ap read_of q in let z : ◌≡◌ {A = ℕ} 0 1 = cc in absurd (omega arith)
+  pub reading-stops : at < length bs → (a : Answer) → here ≡ Err a → read_table bs ≡ Err a
+  reading-stops h a e = reading_one h ∙ ap (λ (y : Read). and_then y (read_from (length bs) past (drop past bs))) e
 
-  pub reading-goes : at < length bs → (read : TableRead) → read ≡ read_of here → read.taken ≡ Accepted → Reading bs past read.table
-  reading-goes h read e t = go here refl
-    where
-      go : (x : Read) → here ≡ x → Reading bs past read.table
-      go (refused b) q = let p : read ≡ read_of (refused b) = e ∙ ap read_of q in let z : ◌≡◌ {A = ℕ} 0 1 = cc in absurd (omega arith)
-      go (accepted u) q =
-          let p : read ≡ read_of (accepted u) = e ∙ ap read_of q in
-          let same : read.table ≡ u = ap (λ (y : TableRead). y.table) p in
-          rw same (reading_one h ∙ ap (λ (y : Read). and_then y (read_from (length bs) past (drop past bs))) q)
+  pub reading-goes : at < length bs → (u : Table) → here ≡ Ok u → Reading bs past u
+  reading-goes h u e = reading_one h ∙ ap (λ (y : Read). and_then y (read_from (length bs) past (drop past bs))) e
 
 -- a body has at most two bytes
 pub body_small : (k : ℕ) → body_length k ≤ 2
@@ -183,32 +169,32 @@ body_small k =
 
 -- What holds of every table that is read: `I` of the place and the table, kept by each record that is accepted, and what it comes to, `Q`.
 module _ (I : ℕ → Table → Type 0) (Q : Read → Type 0)
-    (stops : (at : ℕ) (t : Table) → I at t → Q (refused (BadRecord at)) × Q (refused (TooMany at)) × Q (refused (BadObject at)))
+    (stops : (at : ℕ) (t : Table) → I at t → Q (Err (BadRecord at)) × Q (Err (TooMany at)) × Q (Err (BadObject at)))
     (object : (at past : ℕ) (t : Table) (m : Made) → past ≤ at + 3 → t.thread_count ≡ 0 → t.object_count < max_objects → I at t → I past (with_object t m))
     (thread : (at past : ℕ) (t : Table) → past ≤ at + 3 → t.thread_count < max_threads → I at t → I past (with_thread t))
     (operation : (at past : ℕ) (t : Table) (op : Op) → past ≤ at + 3 → 0 < t.thread_count → last_count t < max_operations → objects_fine t.objects op ≡ true → I at t → I past (with_op t op))
-    (ends : (at : ℕ) (t : Table) → 0 < t.thread_count → I at t → Q (accepted t)) where
+    (ends : (at : ℕ) (t : Table) → 0 < t.thread_count → I at t → Q (Ok t)) where
   positive : (n : ℕ) → eqb n 0 ≡ false → 0 < n
   positive zero e = absurd (eqb-false 0 0 e refl)
   positive (suc n) e = omega arith
 
-  one_by : (at past : ℕ) → past ≤ at + 3 → (t : Table) (r : Parsed) (go : Table → Read) → I at t → ((u : Table) → I past u → Q (go u)) → Q (one_record at t r go)
+  one_by : (at past : ℕ) → past ≤ at + 3 → (t : Table) (r : Option Record) (go : Table → Read) → I at t → ((u : Table) → I past u → Q (go u)) → Q (one_record at t r go)
   unfolding one_record object_record thread_record operation_record
-  one_by at past on t (Whole (rec.Object m)) go i next =
+  one_by at past on t (Some (rec.Object m)) go i next =
       by_test Q (eqb t.thread_count 0)
       (λ z.
       by_test Q (ltb t.object_count max_objects)
       (λ l. next _ (object at past t m on (eqb-true t.thread_count 0 z) (ltb-true t.object_count max_objects l) i)) (λ l. (stops at t i).1)) (λ z. (stops at t i).0)
-  one_by at past on t (Whole rec.Thread) go i next =
+  one_by at past on t (Some rec.Thread) go i next =
       by_test Q (ltb t.thread_count max_threads) (λ l. next _ (thread at past t on (ltb-true t.thread_count max_threads l) i)) (λ l. (stops at t i).1)
-  one_by at past on t (Whole (rec.Operation op)) go i next =
+  one_by at past on t (Some (rec.Operation op)) go i next =
       by_test Q (eqb t.thread_count 0) (λ z. (stops at t i).0)
       (λ z.
       by_test Q (ltb (last_count t) max_operations)
       (λ l.
       by_test Q (objects_fine t.objects op) (λ f. next _ (operation at past t op on (positive t.thread_count z) (ltb-true (last_count t) max_operations l) f i)) (λ f. (stops at t i).2))
       (λ l. (stops at t i).1))
-  one_by at past on t Bad go i next = (stops at t i).0
+  one_by at past on t None go i next = (stops at t i).0
 
   end_by : (at : ℕ) (t : Table) → I at t → Q (at_end at t)
   unfolding at_end
@@ -230,9 +216,9 @@ module _ (I : Table → Type 0) (object : (t : Table) (m : Made) → t.object_co
     (thread : (t : Table) → t.thread_count < max_threads → I t → I (with_thread t))
     (operation : (t : Table) (op : Op) → last_count t < max_operations → objects_fine t.objects op ≡ true → I t → I (with_op t op)) (none : I empty_table) where
   abbrev Accepts : Read → Type 0
-  Accepts r = (table : Table) → r ≡ accepted table → I table × (0 < table.thread_count)
+  Accepts r = (table : Table) → r ≡ Ok table → I table × (0 < table.thread_count)
 
-  never : (a : Answer) → Accepts (refused a)
+  never : (a : Answer) → Accepts (Err a)
   never a table e = let q : ◌≡◌ {A = ℕ} 0 1 = cc in absurd (omega (arith, q))
 
   pub accepted_by : (bs : List ℕ) → Accepts (read_table bs)
@@ -277,7 +263,7 @@ unfolding with_thread
 thread-within t l w = record { objects = w.objects; threads = omega (arith, l); ops = w.ops; counts = w.counts; most = w.most }
 
 -- what is accepted is within the limits, and has a thread
-pub read-within : (bs : List ℕ) (table : Table) → read_table bs ≡ accepted table → Within table × (0 < table.thread_count)
+pub read-within : (bs : List ℕ) (table : Table) → read_table bs ≡ Ok table → Within table × (0 < table.thread_count)
 read-within = accepted_by Within (λ t m l w. object_within t m l w) (λ t l w. thread-within t l w) (λ t op l f w. op-within t op l w) empty-within
 
 -- a position counts the operations of a thread of such a table

@@ -1,13 +1,11 @@
 -- What a turn comes to: it is never refused, and its verdict is one of 0 to 5, "A list is complete when it gives 0 to 5".
-use Rattle.std.specs.Prelude.{◌≡◌, List, [], ◌∷◌, ℕ, suc, ◌≤◌, eqb}
+use Rattle.std.specs.Prelude.{◌≡◌, List, [], ◌∷◌, ℕ, suc, ◌≤◌, eqb, None, Option, Some, Err, Ok}
+use Rattle.rules.specs.declared.object.ObjectId.{ObjectId}
 use Rattle.std.proofs.Common.{arith}
 use Rattle.clocks.specs.declared.thread.ThreadId.{ThreadId}
 use Rattle.rules.specs.declared.object.Entry.{Entry}
-use Rattle.rules.specs.declared.object.Ending.{Ending}
-use Rattle.rules.specs.declared.object.Ending.TheVariants as ending
-use Rattle.rules.specs.declared.condvar.Wait.{Wait}
-use Rattle.rules.specs.declared.condvar.Wait.TheVariants.{On, Nowhere}
-use Rattle.rules.specs.declared.thread.Answered.{Answered}
+use Rattle.rules.specs.Ground.{Ending}
+use Rattle.rules.specs.declared.object.Failure.TheVariants as failure
 use Rattle.rules.specs.declared.thread.Thread.{Thread}
 use Rattle.rules.specs.declared.thread.Phase.{Phase}
 use Rattle.rules.specs.declared.thread.Phase.TheVariants.{Nothing, Announced, Parked, Retaking}
@@ -15,8 +13,6 @@ use Rattle.rules.specs.declared.table.Op.{Op}
 use Rattle.rules.specs.declared.table.Table.{Table}
 use Rattle.rules.specs.declared.answer.Answer.{Answer}
 use Rattle.rules.specs.declared.answer.Spot.{Spot}
-use Rattle.rules.specs.declared.world.Asked.{Asked}
-use Rattle.rules.specs.declared.world.Asked.TheVariants as asked
 use Rattle.rules.specs.declared.world.World.{World}
 use Rattle.rules.specs.declared.world.Step.{Step}
 use Rattle.rules.specs.declared.world.Step.TheVariants.{Refused, Done, Wants}
@@ -48,10 +44,10 @@ after_said ts es = by_test Said (all_ended ts) (λ a. leak_told 0 es) (λ a. by_
 
 ending_said : (e : Ending) (s : Spot) (shown : World) (next : Decided) → Fine next → Fine (ending_of e s shown next)
 unfolding ending_of numbers_of
-ending_said ending.Fine s shown next f = f
-ending_said ending.Misuse s shown next f = omega arith
-ending_said ending.NoRoom s shown next f = omega arith
-ending_said (ending.Race o) s shown next f = omega arith
+ending_said (Ok ok) s shown next f = f
+ending_said (Err failure.Misuse) s shown next f = omega arith
+ending_said (Err failure.NoRoom) s shown next f = omega arith
+ending_said (Err (failure.Race o)) s shown next f = omega arith
 
 go_said : (t : ThreadId) (ops : List Op) (w : World) → Fine (go_on t ops w)
 unfolding go_on
@@ -60,10 +56,10 @@ go_said t (op ∷ ops) w =
     by_test Fine (is_free op.call) (λ b. ending_said _ _ w _ (go_said t ops _))
     (λ b. by_test Fine (asks op.call (entry_in w op.object)) (λ q. tt) (λ q. after_said _ _))
 
-then_said : (m : Wait) (t : ThreadId) (n : Answered) (ops : List Op) (w : World) → Fine (thereafter m t n ops w)
+then_said : (m : Option ObjectId) (t : ThreadId) (n : Option ℕ) (ops : List Op) (w : World) → Fine (thereafter m t n ops w)
 unfolding thereafter
-then_said Nowhere t n ops w = go_said t ops _
-then_said (On m) t n ops w = after_said _ _
+then_said None t n ops w = go_said t ops _
+then_said (Some m) t n ops w = after_said _ _
 
 operation_said : (t : ThreadId) (op : Op) (ops : List Op) (w : World) → Fine (operation t op ops w)
 unfolding operation
@@ -96,10 +92,10 @@ after_told ts es = said_told (after_step ts es) (after_said ts es)
 turn_told : (p : Phase) (t : ThreadId) (ops : List Op) (w : World) → FineIf (turn_of p t ops w)
 turn_told p t ops w = said_told (turn_of p t ops w).step (turn_said p t ops w)
 
-decide_told : (a : Asked) (table : Table) (w : World) (d : ℕ) → FineIf (decide_at a table w d)
+decide_told : (a : Option ThreadId) (table : Table) (w : World) (d : ℕ) → FineIf (decide_at a table w d)
 unfolding decide_at begin question
-decide_told asked.Nobody table w d = by_test FineIf (is_runnable (thread_in w (record { 0 = d })).state) (λ r. turn_told _ _ _ _) (λ r. tt)
-decide_told (asked.Thread t) table w d = by_test FineIf (eqb d 0) (λ z. after_told _ _) (λ z. by_test FineIf (eqb d 1) (λ o. after_told _ _) (λ o. tt))
+decide_told None table w d = by_test FineIf (is_runnable (thread_in w (record { 0 = d })).state) (λ r. turn_told _ _ _ _) (λ r. tt)
+decide_told (Some t) table w d = by_test FineIf (eqb d 0) (λ z. after_told _ _) (λ z. by_test FineIf (eqb d 1) (λ o. after_told _ _) (λ o. tt))
 
 -- a decision's verdict is one of 0 to 5
 pub verdict_number : (table : Table) (w : World) (d : ℕ) (a : Answer) → (decide table w d).step ≡ Done a → (numbers_of a).number ≤ 5

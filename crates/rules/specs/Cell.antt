@@ -1,19 +1,16 @@
 -- Document 01, step 8, `cell.rs`.
-use Rattle.std.specs.Prelude.{Bool, true, false, not, ◌||◌, List, [], ◌∷◌, ℕ, ◌-◌, eqb}
+use Rattle.std.specs.Prelude.{Bool, true, false, not, ◌||◌, List, [], ◌∷◌, ℕ, ◌-◌, eqb, Option, Some, None, Err, Ok}
 use Rattle.clocks.specs.Clock.{zero_clock, risen, join_of, inc_of, ahead_of}
 use Rattle.clocks.specs.declared.clock.Clock.{Clock}
 use Rattle.clocks.specs.declared.clock.Ahead.{Ahead}
-use Rattle.clocks.specs.declared.clock.Ahead.TheVariants.{Nobody, Threads}
 use Rattle.clocks.specs.declared.thread.ThreadId.{ThreadId}
-use Rattle.rules.specs.declared.object.Ending.{Ending}
-use Rattle.rules.specs.declared.object.Ending.TheVariants.{Fine, Misuse, Race}
+use Rattle.rules.specs.Ground.{Ending, Left, left}
+use Rattle.rules.specs.declared.object.Failure.TheVariants.{Misuse, Race}
 use Rattle.rules.specs.declared.cell.Call.{Call}
 use Rattle.rules.specs.declared.cell.Call.TheVariants.{StartRead, EndRead, StartWrite, EndWrite}
 use Rattle.rules.specs.declared.cell.State.{State}
-use Rattle.rules.specs.declared.cell.Effect.{Effect}
-use Rattle.rules.specs.declared.thread.Answered.TheVariants.{Kept}
 use Rattle.rules.specs.declared.thread.Thread.{Thread}
-use Rattle.rules.specs.Ground.{thread_at, Touch, raises, touched, is_fine, Does, does, fails}
+use Rattle.rules.specs.Ground.{thread_at, Touch, raises, is_fine, Does, does, fails, Left, left}
 
 abbrev pub new : State
 new = record { is_reading = 0; is_writing = false; read_access = zero_clock; write_access = zero_clock }
@@ -29,9 +26,9 @@ is_misuse StartWrite s = is_reading s || s.is_writing
 is_misuse EndWrite s = not s.is_writing || is_reading s
 
 -- "Otherwise race; other is the lowest thread ahead."
-abbrev pub racing : Ahead → Ending
-racing Nobody = Fine
-racing (Threads mask lowest) = Race lowest
+abbrev pub racing : Option Ahead → Ending
+racing None = Ok tt
+racing (Some a) = Err (Race a.lowest)
 
 -- the first of two checks that fails
 unfoldable pub first_race : Ending → Ending → Ending
@@ -53,7 +50,7 @@ written b c s = record { is_reading = s.is_reading; is_writing = b; read_access 
 
 -- an access: misuse is told before the clocks are compared, and one that fails leaves all as it was
 unfoldable pub accessing : Bool → Ending → State → State → List Touch → Does State
-accessing misuse track s next xs = elim misuse [ true ↦ fails Misuse s | false ↦ elim (is_fine track) [ true ↦ does Kept next xs | false ↦ fails track s ] ]
+accessing misuse track s next xs = elim misuse [ true ↦ fails (Err Misuse) s | false ↦ elim (is_fine track) [ true ↦ does None next xs | false ↦ fails track s ] ]
 
 -- what an operation does; `by` is the active thread's clock. "Before start_read and start_write the active thread's own count rises by one."
 unfoldable pub doing : Call → ThreadId → Clock → State → Does State
@@ -67,8 +64,5 @@ doing StartWrite active by s =
 doing EndWrite active by s = accessing (is_misuse EndWrite s) (track_write by s) s (written false by s) []
 
 -- the effect: what it does, with its touches done
-abbrev pub left : ThreadId → Does State → List Thread → Effect
-left active d ts = record { ending = d.ending; answer = d.answer; state = d.state; threads = touched active d.touches ts }
-
-unfoldable pub effect : Call → ThreadId → State → List Thread → Effect
+unfoldable pub effect : Call → ThreadId → State → List Thread → Left State
 effect c active s ts = left active (doing c active (thread_at ts active).clock s) ts

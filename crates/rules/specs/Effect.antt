@@ -1,5 +1,5 @@
 -- Document 01, "Steps": an operation on its object, a line for each kind. What each says is in the file of its lock.
-use Rattle.std.specs.Prelude.{Bool, true, false, List}
+use Rattle.std.specs.Prelude.{Bool, true, false, List, None, Option, ℕ}
 use Rattle.clocks.specs.declared.clock.Clock.{Clock}
 use Rattle.clocks.specs.declared.thread.ThreadId.{ThreadId}
 use Rattle.rules.specs.declared.access.Access.{Access}
@@ -7,10 +7,7 @@ use Rattle.rules.specs.declared.object.ObjectId.{ObjectId}
 use Rattle.rules.specs.declared.object.Action.{Action}
 use Rattle.rules.specs.declared.object.Action.TheVariants as action
 use Rattle.rules.specs.declared.object.Entry.{Entry}
-use Rattle.rules.specs.declared.object.Ending.{Ending}
-use Rattle.rules.specs.declared.condvar.Wait.{Wait}
-use Rattle.rules.specs.declared.condvar.Wait.TheVariants.{Nowhere}
-use Rattle.rules.specs.declared.thread.Answered.{Answered}
+use Rattle.rules.specs.Ground.{Ending}
 use Rattle.rules.specs.declared.thread.Thread.{Thread}
 use Rattle.rules.specs.declared.table.Call.{Call}
 use Rattle.rules.specs.declared.table.Call.TheVariants.{Mutex, RwLock, Condvar, Notify, Channel, Arc, Cell}
@@ -65,14 +62,14 @@ asks (Arc c) e = false
 asks (Cell c) e = false
 
 -- the mutex of a condvar wait
-abbrev pub wait_of : Call → Wait
-wait_of (Mutex c) = Nowhere
-wait_of (RwLock c) = Nowhere
+abbrev pub wait_of : Call → Option ObjectId
+wait_of (Mutex c) = None
+wait_of (RwLock c) = None
 wait_of (Condvar c) = condvar.wait_of c
-wait_of (Notify c) = Nowhere
-wait_of (Channel c) = Nowhere
-wait_of (Arc c) = Nowhere
-wait_of (Cell c) = Nowhere
+wait_of (Notify c) = None
+wait_of (Channel c) = None
+wait_of (Arc c) = None
+wait_of (Cell c) = None
 
 -- the last access that an operation depends on, and its own recorded; a cell's are not announced
 unfoldable pub last_dependent_access : Call → Entry → Access
@@ -109,7 +106,7 @@ doing (Cell c) active o by e = within (put_cell e) (cell.doing c active by e.cel
 -- the effect of an operation on its object and on the threads
 pub record Effect : Type 0 where
   pub ending : Ending
-  pub answer : Answered
+  pub answer : Option ℕ
   pub entry : Entry
   pub threads : List Thread
 

@@ -1,5 +1,5 @@
 -- Document 01, "Ground rules": threads and clocks, and what an operation may do to them.
-use Rattle.std.specs.Prelude.{Bool, true, false, List, [], ◌∷◌, ℕ, eqb, get_or, set}
+use Rattle.std.specs.Prelude.{Bool, true, false, List, [], ◌∷◌, ℕ, eqb, get_or, set, None, Option, Some, Result, Err, Ok}
 use Rattle.clocks.specs.Pass.{pass_from}
 use Rattle.clocks.specs.Clock.{zero_clock, join_of, inc_of}
 use Rattle.clocks.specs.declared.clock.Clock.{Clock}
@@ -8,8 +8,8 @@ use Rattle.rules.specs.declared.access.Access.{Access}
 use Rattle.rules.specs.declared.object.ObjectId.{ObjectId}
 use Rattle.rules.specs.declared.object.Action.{Action}
 use Rattle.rules.specs.declared.object.Action.TheVariants as action
-use Rattle.rules.specs.declared.object.Ending.{Ending}
-use Rattle.rules.specs.declared.object.Ending.TheVariants.{Fine, Misuse, NoRoom, Race}
+use Rattle.rules.specs.declared.object.Failure.{Failure}
+use Rattle.rules.specs.declared.object.Effect.{Effect}
 use Rattle.rules.specs.declared.rwlock.Action.TheVariants as rwlock
 use Rattle.rules.specs.declared.mpsc.Action.TheVariants as mpsc
 use Rattle.rules.specs.declared.thread.State.{State}
@@ -17,8 +17,6 @@ use Rattle.rules.specs.declared.thread.State.TheVariants.{Runnable, Unparked, Bl
 use Rattle.rules.specs.declared.thread.Phase.{Phase}
 use Rattle.rules.specs.declared.thread.Phase.TheVariants.{Nothing, Announced, Parked, Retaking}
 use Rattle.rules.specs.declared.thread.Thread.{Thread}
-use Rattle.rules.specs.declared.thread.Answered.{Answered}
-use Rattle.rules.specs.declared.thread.Answered.TheVariants.{Kept, Left}
 use Rattle.rules.specs.declared.thread.Change.{Change}
 use Rattle.rules.specs.declared.thread.Change.TheVariants.{Wake, Block, BlockWriters, BlockReceivers, Unpark}
 
@@ -163,9 +161,9 @@ unfoldable pub others : Change → ThreadId → ObjectId → List Thread → Lis
 others change active o ts = pass_from (changed_at change active o (thread_at ts active).clock) 0 ts
 
 -- "Last answer: 31, 35, 36 leave 1 if taken, 41 if the count is now 0, 42 if it is 1, else 0; 43 the count; others keep it."
-abbrev pub answering : Answered → Thread → Thread
-answering Kept t = t
-answering (Left n) t = with_answer t n
+abbrev pub answering : Option ℕ → Thread → Thread
+answering None t = t
+answering (Some n) t = with_answer t n
 
 -- What an operation may do to the threads: load a clock, wake, block or unpark others, raise the own count. Nothing else is done to them.
 pub data Touch : Type 0 where
@@ -185,26 +183,43 @@ abbrev pub touched : ThreadId → List Touch → List Thread → List Thread
 touched active [] ts = ts
 touched active (x ∷ xs) ts = touched active xs (touch active x ts)
 
+-- how a step ends: well, or it fails
+abbrev pub Ending : Type 0
+Ending = Result (Unit {0}) Failure
+
 abbrev pub is_fine : Ending → Bool
-is_fine Fine = true
-is_fine Misuse = false
-is_fine NoRoom = false
-is_fine (Race t) = false
+is_fine (Ok ok) = true
+is_fine (Err f) = false
 
 -- What an operation does: how it ends, the answer that it leaves, its object's state then, and what it does to the threads. It goes by the state and
 -- its own thread's clock alone.
 pub record Does (S : Type 0) : Type 0 where
   pub ending : Ending
-  pub answer : Answered
+  pub answer : Option ℕ
   pub state : S
   pub touches : List Touch
 
 -- one that goes well, one that leaves all as it was, and of these one that fails
-abbrev pub does : {S : Type 0} → Answered → S → List Touch → Does S
-does n s xs = record { ending = Fine; answer = n; state = s; touches = xs }
+abbrev pub does : {S : Type 0} → Option ℕ → S → List Touch → Does S
+does n s xs = record { ending = Ok tt; answer = n; state = s; touches = xs }
 
-abbrev pub leaves : {S : Type 0} → Ending → Answered → S → Does S
+abbrev pub leaves : {S : Type 0} → Ending → Option ℕ → S → Does S
 leaves e n s = record { ending = e; answer = n; state = s; touches = [] }
 
 abbrev pub fails : {S : Type 0} → Ending → S → Does S
-fails e s = leaves e Kept s
+fails e s = leaves e None s
+
+-- the effect on an object's state and on the threads
+pub record Left (S : Type 0) : Type 0 where
+  pub ending : Ending
+  pub answer : Option ℕ
+  pub state : S
+  pub threads : List Thread
+
+-- what an operation does, with its touches done
+abbrev pub left : {S : Type 0} → ThreadId → Does S → List Thread → Left S
+left active d ts = record { ending = d.ending; answer = d.answer; state = d.state; threads = touched active d.touches ts }
+
+-- the same as the code hands it back: a step that fails leaves all as it was, so that nothing comes with its failure
+abbrev pub outcome : {S : Type 0} → Left S → Result (Effect S) Failure
+outcome l = elim l.ending [ Ok ok ↦ Ok (record { answer = l.answer; state = l.state; threads = l.threads }) | Err f ↦ Err f ]

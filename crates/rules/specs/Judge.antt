@@ -1,5 +1,5 @@
 -- Document 01, "Numbers given back": judging a list. What is answered, and each byte of the lent buffer afterwards.
-use Rattle.std.specs.Prelude.{true, false, List, ◌++◌, ℕ, leb, length, drop}
+use Rattle.std.specs.Prelude.{true, false, List, ◌++◌, ℕ, leb, length, drop, Err, Ok}
 use Rattle.lists.specs.Rules.{Outcome}
 use Rattle.lists.specs.Rules as rules
 use Rattle.lists.specs.Judge.{Judged, not_allowed, surplus, unfinished, verdict, judge}
@@ -9,7 +9,7 @@ use Rattle.rules.specs.declared.table.Table.{Table}
 use Rattle.rules.specs.declared.world.World.{World}
 use Rattle.rules.specs.declared.world.Step.{Step}
 use Rattle.rules.specs.declared.world.Step.TheVariants.{Refused, Done, Wants}
-use Rattle.rules.specs.Table.{Read, refused, accepted, read_table}
+use Rattle.rules.specs.Table.{Read, read_table}
 use Rattle.rules.specs.Turn.{decide, start}
 use Rattle.rules.specs.Sheet.{sheet_of, sheet_length}
 
@@ -48,8 +48,8 @@ shown table (verdict v) buffer = record { answer = v.answer; buffer = over (shee
 
 -- "then sheet length, then the list as it runs"
 unfoldable pub judge_table : Read → List ℕ → List ℕ → Given
-judge_table (refused a) list buffer = untouched a buffer
-judge_table (accepted table) list buffer =
+judge_table (Err a) list buffer = untouched a buffer
+judge_table (Ok table) list buffer =
     elim (leb (sheet_length table) (length buffer))
     [ true ↦ shown table (judge (step table) 0 (start table) list) buffer | false ↦ untouched (TooShort (sheet_length table)) buffer ]
 

@@ -1,22 +1,20 @@
 -- Document 01, step 4, `mpsc.rs`.
-use Rattle.std.specs.Prelude.{Bool, true, false, List, [], ◌∷◌, ◌++◌, ℕ, ◌+◌, ◌-◌, eqb, ltb, get_or, set, drop, replicate}
+use Rattle.std.specs.Prelude.{Bool, true, false, List, [], ◌∷◌, ◌++◌, ℕ, ◌+◌, ◌-◌, eqb, ltb, get_or, set, drop, replicate, None, Err}
 use Rattle.clocks.specs.Clock.{zero_clock}
 use Rattle.clocks.specs.declared.clock.Clock.{Clock}
 use Rattle.clocks.specs.declared.thread.ThreadId.{ThreadId}
 use Rattle.rules.specs.Limits.{max_messages}
 use Rattle.rules.specs.declared.access.Access.{Access}
 use Rattle.rules.specs.declared.object.ObjectId.{ObjectId}
-use Rattle.rules.specs.declared.object.Ending.TheVariants.{Misuse, NoRoom}
+use Rattle.rules.specs.declared.object.Failure.TheVariants.{Misuse, NoRoom}
 use Rattle.rules.specs.declared.mpsc.Call.{Call}
 use Rattle.rules.specs.declared.mpsc.Call.TheVariants.{Send, Recv}
 use Rattle.rules.specs.declared.mpsc.Action.{Action}
 use Rattle.rules.specs.declared.mpsc.Action.TheVariants.{MsgSend, MsgRecv}
 use Rattle.rules.specs.declared.mpsc.State.{State}
-use Rattle.rules.specs.declared.mpsc.Effect.{Effect}
-use Rattle.rules.specs.declared.thread.Answered.TheVariants.{Kept}
 use Rattle.rules.specs.declared.thread.Thread.{Thread}
 use Rattle.rules.specs.declared.thread.Change.TheVariants.{Wake, BlockReceivers}
-use Rattle.rules.specs.Ground.{no_access, thread_at, stored, loads, passes, touched, Does, does, fails}
+use Rattle.rules.specs.Ground.{no_access, thread_at, stored, loads, passes, Does, does, fails, Left, left}
 
 abbrev pub new : State
 new = record {
@@ -75,23 +73,20 @@ with_messages s count sender messages = record {
 -- "send stores to the sender clock and queues a copy; all others announced on it are woken only when the count becomes 1"
 abbrev pub sending : ObjectId → Clock → State → Does State
 sending o sender s =
-    does Kept (with_messages s (s.msg_cnt + 1) sender (set s.receiver_synchronize s.msg_cnt sender))
+    does None (with_messages s (s.msg_cnt + 1) sender (set s.receiver_synchronize s.msg_cnt sender))
     (elim (eqb s.msg_cnt 0) [ true ↦ passes Wake o ∷ [] | false ↦ [] ])
 
 -- "its effect removes and loads the oldest copy and blocks other announced receivers only at 0"
 abbrev pub receiving : ObjectId → State → Does State
 receiving o s =
-    does Kept (with_messages s (s.msg_cnt - 1) s.sender_synchronize (drop 1 s.receiver_synchronize ++ zero_clock ∷ []))
+    does None (with_messages s (s.msg_cnt - 1) s.sender_synchronize (drop 1 s.receiver_synchronize ++ zero_clock ∷ []))
     (loads (get_or s.receiver_synchronize 0 zero_clock) ∷ elim (eqb s.msg_cnt 1) [ true ↦ passes BlockReceivers o ∷ [] | false ↦ [] ])
 
 -- what an operation does; `by` is the active thread's clock. "At most .. 16 messages a channel": a 17th finds no room
 unfoldable pub doing : Call → ObjectId → Clock → State → Does State
-doing Send o by s = elim (ltb s.msg_cnt max_messages) [ true ↦ sending o (stored by s.sender_synchronize) s | false ↦ fails NoRoom s ]
-doing Recv o by s = elim (is_empty s) [ true ↦ fails Misuse s | false ↦ receiving o s ]
+doing Send o by s = elim (ltb s.msg_cnt max_messages) [ true ↦ sending o (stored by s.sender_synchronize) s | false ↦ fails (Err NoRoom) s ]
+doing Recv o by s = elim (is_empty s) [ true ↦ fails (Err Misuse) s | false ↦ receiving o s ]
 
 -- the effect: what it does, with its touches done
-abbrev pub left : ThreadId → Does State → List Thread → Effect
-left active d ts = record { ending = d.ending; answer = d.answer; state = d.state; threads = touched active d.touches ts }
-
-unfoldable pub effect : Call → ThreadId → ObjectId → State → List Thread → Effect
+unfoldable pub effect : Call → ThreadId → ObjectId → State → List Thread → Left State
 effect c active o s ts = left active (doing c o (thread_at ts active).clock s) ts

@@ -1,19 +1,17 @@
 -- Document 01, step 6, `notify.rs`.
-use Rattle.std.specs.Prelude.{Bool, true, false, not, ◌&&◌, List, [], ◌∷◌}
+use Rattle.std.specs.Prelude.{Bool, true, false, not, ◌&&◌, List, [], ◌∷◌, None, Err}
 use Rattle.clocks.specs.Clock.{zero_clock}
 use Rattle.clocks.specs.declared.clock.Clock.{Clock}
 use Rattle.clocks.specs.declared.thread.ThreadId.{ThreadId}
 use Rattle.rules.specs.declared.access.Access.{Access}
 use Rattle.rules.specs.declared.object.ObjectId.{ObjectId}
-use Rattle.rules.specs.declared.object.Ending.TheVariants.{Misuse}
+use Rattle.rules.specs.declared.object.Failure.TheVariants.{Misuse}
 use Rattle.rules.specs.declared.notify.Call.{Call}
 use Rattle.rules.specs.declared.notify.Call.TheVariants.{Notify, Wait}
 use Rattle.rules.specs.declared.notify.State.{State}
-use Rattle.rules.specs.declared.notify.Effect.{Effect}
-use Rattle.rules.specs.declared.thread.Answered.TheVariants.{Kept}
 use Rattle.rules.specs.declared.thread.Thread.{Thread}
 use Rattle.rules.specs.declared.thread.Change.TheVariants.{Unpark}
-use Rattle.rules.specs.Ground.{no_access, thread_at, stored, loads, passes, touched, Does, does, fails}
+use Rattle.rules.specs.Ground.{no_access, thread_at, stored, loads, passes, Does, does, fails, Left, left}
 
 abbrev pub new : Bool → State
 new spurious = record { spurious = spurious; did_spur = false; notified = false; last_access = no_access; synchronize = zero_clock }
@@ -48,12 +46,9 @@ with_notified b c s = record { spurious = s.spurious; did_spur = s.did_spur; not
 -- what an operation does; `by` is the active thread's clock. "notify stores, sets notified, unparks all others announced on it"; a wait's "effect
 -- needs notified, loads, clears"
 unfoldable pub doing : Call → ObjectId → Clock → State → Does State
-doing Notify o by s = does Kept (with_notified true (stored by s.synchronize) s) (passes Unpark o ∷ [])
-doing Wait o by s = elim s.notified [ true ↦ does Kept (with_notified false s.synchronize s) (loads s.synchronize ∷ []) | false ↦ fails Misuse s ]
+doing Notify o by s = does None (with_notified true (stored by s.synchronize) s) (passes Unpark o ∷ [])
+doing Wait o by s = elim s.notified [ true ↦ does None (with_notified false s.synchronize s) (loads s.synchronize ∷ []) | false ↦ fails (Err Misuse) s ]
 
 -- the effect: what it does, with its touches done
-abbrev pub left : ThreadId → Does State → List Thread → Effect
-left active d ts = record { ending = d.ending; answer = d.answer; state = d.state; threads = touched active d.touches ts }
-
-unfoldable pub effect : Call → ThreadId → ObjectId → State → List Thread → Effect
+unfoldable pub effect : Call → ThreadId → ObjectId → State → List Thread → Left State
 effect c active o s ts = left active (doing c o (thread_at ts active).clock s) ts

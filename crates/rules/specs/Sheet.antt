@@ -1,5 +1,5 @@
 -- Document 01, "The sheet": "Threads, then objects", a definition for each record.
-use Rattle.std.specs.Prelude.{List, [], ◌∷◌, ◌++◌, map, ℕ, zero, suc, ◌+◌, ◌*◌, ◌%◌, get_or, take, drop}
+use Rattle.std.specs.Prelude.{List, [], ◌∷◌, ◌++◌, map, ℕ, zero, suc, ◌+◌, ◌*◌, ◌%◌, get_or, take, drop, None, Option, Some}
 use Rattle.clocks.specs.Clock.{max_threads, zero_clock}
 use Rattle.clocks.specs.declared.clock.Clock.{Clock}
 use Rattle.clocks.specs.declared.thread.ThreadId.{ThreadId}
@@ -7,8 +7,6 @@ use Rattle.rules.specs.Limits.{max_messages, max_waiters, thread_record, channel
 use Rattle.rules.specs.declared.object.Kind.{Kind}
 use Rattle.rules.specs.declared.object.Kind.TheVariants as kind
 use Rattle.rules.specs.declared.object.Entry.{Entry}
-use Rattle.rules.specs.declared.mutex.Lock.{Lock}
-use Rattle.rules.specs.declared.mutex.Lock.TheVariants as lock
 use Rattle.rules.specs.declared.mutex.State.{State as MutexState}
 use Rattle.rules.specs.declared.rwlock.Locked.{Locked}
 use Rattle.rules.specs.declared.rwlock.Locked.TheVariants as locked
@@ -66,23 +64,23 @@ unfoldable pub thread_bytes : Thread → List ℕ
 thread_bytes t = 0x80 ∷ state_byte t.state ∷ t.position ∷ phase_byte t.phase ∷ byte t.last_answer ∷ clock_bytes t.clock ++ clock_bytes t.dependence
 
 -- "90 Mutex: holder or FF, clock"
-unfoldable pub holder_byte : Lock → ℕ
-holder_byte lock.Free = 255
-holder_byte (lock.Held t) = t.0
+unfoldable pub holder_byte : Option ThreadId → ℕ
+holder_byte None = 255
+holder_byte (Some t) = t.0
 
 unfoldable pub mutex_bytes : MutexState → List ℕ
 mutex_bytes s = 0x90 ∷ holder_byte s.lock ∷ clock_bytes s.synchronize
 
 -- "91 RwLock: 0 free, 1 read, 2 write; reader mask, writer, or 0 when free; clock"
-unfoldable pub form_byte : Locked → ℕ
-form_byte locked.Free = 0
-form_byte (locked.Read mask) = 1
-form_byte (locked.Write t) = 2
+unfoldable pub form_byte : Option Locked → ℕ
+form_byte None = 0
+form_byte (Some (locked.Read mask)) = 1
+form_byte (Some (locked.Write t)) = 2
 
-unfoldable pub who_byte : Locked → ℕ
-who_byte locked.Free = 0
-who_byte (locked.Read mask) = byte mask
-who_byte (locked.Write t) = t.0
+unfoldable pub who_byte : Option Locked → ℕ
+who_byte None = 0
+who_byte (Some (locked.Read mask)) = byte mask
+who_byte (Some (locked.Write t)) = t.0
 
 unfoldable pub rwlock_bytes : RwLockState → List ℕ
 rwlock_bytes s = 0x91 ∷ form_byte s.lock ∷ who_byte s.lock ∷ clock_bytes s.synchronize

@@ -1,5 +1,6 @@
 -- Document 01, "The table, as bytes": kinds, bodies, limits, the first bad record and its refusal.
-use Rattle.std.specs.Prelude.{Bool, true, false, ◌&&◌, List, [], ◌∷◌, ℕ, zero, suc, ◌+◌, ◌-◌, ◌*◌, eqb, ltb, leb, length, get_or, set, drop, take, replicate}
+use Rattle.std.specs.Prelude.{Bool, true, false, ◌&&◌, List, [], ◌∷◌, ℕ, zero, suc, ◌+◌, ◌-◌, ◌*◌, eqb, ltb, leb, length, get_or, set, drop, take, replicate, None, Option, Some, Result, Err, Ok}
+use Rattle.rules.specs.declared.table.Record.{Record}
 use Rattle.clocks.specs.Clock.{max_threads}
 use Rattle.rules.specs.declared.object.ObjectId.{ObjectId}
 use Rattle.rules.specs.declared.object.Kind.{Kind}
@@ -7,8 +8,6 @@ use Rattle.rules.specs.declared.object.Kind.TheVariants as kind
 use Rattle.rules.specs.declared.mutex.Call.TheVariants as mutex
 use Rattle.rules.specs.declared.rwlock.Call.TheVariants as rwlock
 use Rattle.rules.specs.declared.condvar.Call.TheVariants as condvar
-use Rattle.rules.specs.declared.condvar.Wait.{Wait}
-use Rattle.rules.specs.declared.condvar.Wait.TheVariants.{On, Nowhere}
 use Rattle.rules.specs.declared.notify.Call.TheVariants as notify
 use Rattle.rules.specs.declared.mpsc.Call.TheVariants as mpsc
 use Rattle.rules.specs.declared.arc.Call.TheVariants as arc
@@ -18,11 +17,7 @@ use Rattle.rules.specs.declared.table.Call.TheVariants.{Mutex, RwLock, Condvar, 
 use Rattle.rules.specs.declared.table.Op.{Op}
 use Rattle.rules.specs.declared.table.Made.{Made}
 use Rattle.rules.specs.declared.table.Table.{Table}
-use Rattle.rules.specs.declared.table.Taken.TheVariants.{Accepted, Refused}
-use Rattle.rules.specs.declared.table.TableRead.{TableRead}
 use Rattle.rules.specs.declared.table.Record.TheVariants as rec
-use Rattle.rules.specs.declared.table.Parsed.{Parsed}
-use Rattle.rules.specs.declared.table.Parsed.TheVariants.{Whole, Bad}
 use Rattle.rules.specs.declared.answer.Answer.{Answer}
 use Rattle.rules.specs.declared.answer.Answer.TheVariants.{BadRecord, TooMany, BadObject}
 use Rattle.rules.specs.Limits.{max_objects, max_operations, op_places}
@@ -75,28 +70,28 @@ body_length k =
     [ true ↦ 1 | false ↦ elim (eqb k 0x13) [ true ↦ 2 | false ↦ elim (eqb k 0x39) [ true ↦ 2 | false ↦ elim (is_operation k) [ true ↦ 1 | false ↦ 0 ] ] ] ]
 
 -- "Flags are 0 or 1."; the second one of a Notify says spurious
-unfoldable pub object_of : ℕ → ℕ → ℕ → Parsed
-object_of n first second = elim (leb first 1 && leb second 1) [ true ↦ Whole (rec.Object (record { kind = get_or kinds n kind.Nothing; spurious = eqb second 1 })) | false ↦ Bad ]
+unfoldable pub object_of : ℕ → ℕ → ℕ → Option Record
+object_of n first second = elim (leb first 1 && leb second 1) [ true ↦ Some (rec.Object (record { kind = get_or kinds n kind.Nothing; spurious = eqb second 1 })) | false ↦ None ]
 
-unfoldable pub operation_of : ℕ → ℕ → ℕ → Parsed
-operation_of n first second = Whole (rec.Operation (record { call = get_or (calls second) n (Mutex mutex.AcquireLock); object = record { 0 = first } }))
+unfoldable pub operation_of : ℕ → ℕ → ℕ → Option Record
+operation_of n first second = Some (rec.Operation (record { call = get_or (calls second) n (Mutex mutex.AcquireLock); object = record { 0 = first } }))
 
 -- the record of kind k whose body has these two bytes, 0 where it has none
-unfoldable pub whole_record : ℕ → ℕ → ℕ → Parsed
+unfoldable pub whole_record : ℕ → ℕ → ℕ → Option Record
 whole_record k first second =
     elim (is_object k) [
       | true ↦ object_of (k - 0x10) first second
-      | false ↦ elim (eqb k 0x20) [ true ↦ Whole rec.Thread | false ↦ elim (is_operation k) [ true ↦ operation_of (k - 0x30) first second | false ↦ Bad ] ]
+      | false ↦ elim (eqb k 0x20) [ true ↦ Some rec.Thread | false ↦ elim (is_operation k) [ true ↦ operation_of (k - 0x30) first second | false ↦ None ] ]
     ]
 
 -- byte i of a body of n bytes that stands before the bytes `rest`; 0 if it has none
 abbrev pub body_byte : ℕ → List ℕ → ℕ → ℕ
 body_byte n rest i = get_or (take n rest) i 0
 
--- the record that begins with the kind k, before the bytes `rest`; "unknown kind, body cut short, bad flag" are Bad
-unfoldable pub record_of : ℕ → List ℕ → Parsed
+-- the record that begins with the kind k, before the bytes `rest`; "unknown kind, body cut short, bad flag" are None
+unfoldable pub record_of : ℕ → List ℕ → Option Record
 record_of k rest =
-    elim (leb (body_length k) (length rest)) [ true ↦ whole_record k (body_byte (body_length k) rest 0) (body_byte (body_length k) rest 1) | false ↦ Bad ]
+    elim (leb (body_length k) (length rest)) [ true ↦ whole_record k (body_byte (body_length k) rest 0) (body_byte (body_length k) rest 1) | false ↦ None ]
 
 -- the kind of object that an operation is on
 abbrev pub kind_of : Call → Kind
@@ -122,9 +117,9 @@ kind_number kind.Nothing = 7
 unfoldable pub is_kind : List Made → ObjectId → Kind → Bool
 is_kind ms o k = eqb (kind_number (get_or ms o.0 no_object).kind) (kind_number k)
 
-abbrev pub mutex_fine : List Made → Wait → Bool
-mutex_fine ms Nowhere = true
-mutex_fine ms (On m) = is_kind ms m kind.Mutex
+abbrev pub mutex_fine : List Made → Option ObjectId → Bool
+mutex_fine ms None = true
+mutex_fine ms (Some m) = is_kind ms m kind.Mutex
 
 -- "object absent or of the wrong kind (for 39: condvar checked before mutex)"
 unfoldable pub objects_fine : List Made → Op → Bool
@@ -166,37 +161,36 @@ with_op t op = record {
 }
 
 -- what reading a table comes to
-pub data Read : Type 0 where
-  refused : Answer → Read
-  accepted : Table → Read
+abbrev pub Read : Type 0
+Read = Result Table Answer
 
 -- the first of the tests 20, 21, 22 that fails, at the place of the record's first byte; the rest is read with `go`
 unfoldable pub object_record : ℕ → Table → Made → (Table → Read) → Read
 object_record at t m go =
     elim (eqb t.thread_count 0)
-    [ true ↦ elim (ltb t.object_count max_objects) [ true ↦ go (with_object t m) | false ↦ refused (TooMany at) ] | false ↦ refused (BadRecord at) ]
+    [ true ↦ elim (ltb t.object_count max_objects) [ true ↦ go (with_object t m) | false ↦ Err (TooMany at) ] | false ↦ Err (BadRecord at) ]
 
 unfoldable pub thread_record : ℕ → Table → (Table → Read) → Read
-thread_record at t go = elim (ltb t.thread_count max_threads) [ true ↦ go (with_thread t) | false ↦ refused (TooMany at) ]
+thread_record at t go = elim (ltb t.thread_count max_threads) [ true ↦ go (with_thread t) | false ↦ Err (TooMany at) ]
 
 unfoldable pub operation_record : ℕ → Table → Op → (Table → Read) → Read
 operation_record at t op go =
     elim (eqb t.thread_count 0) [
-      | true ↦ refused (BadRecord at)
+      | true ↦ Err (BadRecord at)
       | false ↦
           elim (ltb (last_count t) max_operations)
-          [ true ↦ elim (objects_fine t.objects op) [ true ↦ go (with_op t op) | false ↦ refused (BadObject at) ] | false ↦ refused (TooMany at) ]
+          [ true ↦ elim (objects_fine t.objects op) [ true ↦ go (with_op t op) | false ↦ Err (BadObject at) ] | false ↦ Err (TooMany at) ]
     ]
 
-unfoldable pub one_record : ℕ → Table → Parsed → (Table → Read) → Read
-one_record at t (Whole (rec.Object m)) go = object_record at t m go
-one_record at t (Whole rec.Thread) go = thread_record at t go
-one_record at t (Whole (rec.Operation op)) go = operation_record at t op go
-one_record at t Bad go = refused (BadRecord at)
+unfoldable pub one_record : ℕ → Table → Option Record → (Table → Read) → Read
+one_record at t (Some (rec.Object m)) go = object_record at t m go
+one_record at t (Some rec.Thread) go = thread_record at t go
+one_record at t (Some (rec.Operation op)) go = operation_record at t op go
+one_record at t None go = Err (BadRecord at)
 
 -- "no thread at all (place: table length)"
 unfoldable pub at_end : ℕ → Table → Read
-at_end at t = elim (eqb t.thread_count 0) [ true ↦ refused (TooMany at) | false ↦ accepted t ]
+at_end at t = elim (eqb t.thread_count 0) [ true ↦ Err (TooMany at) | false ↦ Ok t ]
 
 -- the records from the place `at` on; n is at least the number of bytes left, so that it never runs out
 unfoldable pub read_from : ℕ → ℕ → List ℕ → Table → Read
@@ -206,11 +200,6 @@ read_from (suc n) at (k ∷ bs) t = one_record at t (record_of k bs) (read_from 
 
 unfoldable pub read_table : List ℕ → Read
 read_table bs = read_from (length bs) 0 bs empty_table
-
--- the same as the code hands it back
-abbrev pub read_of : Read → TableRead
-read_of (refused a) = record { taken = Refused a; table = empty_table }
-read_of (accepted t) = record { taken = Accepted; table = t }
 
 -- the operations of a thread
 unfoldable pub ops_of : Table → ℕ → List Op

@@ -1,5 +1,5 @@
 -- Document 01, "Ground rules": the turn. One decision, from a world to the next or to a verdict.
-use Rattle.std.specs.Prelude.{Bool, true, false, ◌&&◌, ◌||◌, List, [], ◌∷◌, map, ℕ, suc, eqb, ltb, leb, get_or, drop, replicate}
+use Rattle.std.specs.Prelude.{Bool, true, false, ◌&&◌, ◌||◌, List, [], ◌∷◌, map, ℕ, suc, eqb, ltb, leb, get_or, drop, replicate, None, Option, Some, Err, Ok}
 use Rattle.clocks.specs.Clock.{max_threads, join_of, inc_of, risen}
 use Rattle.clocks.specs.Pass.{pass_from}
 use Rattle.clocks.specs.declared.clock.Clock.{Clock}
@@ -7,16 +7,12 @@ use Rattle.clocks.specs.declared.thread.ThreadId.{ThreadId}
 use Rattle.rules.specs.declared.object.ObjectId.{ObjectId}
 use Rattle.rules.specs.declared.object.Action.TheVariants as action
 use Rattle.rules.specs.declared.object.Entry.{Entry}
-use Rattle.rules.specs.declared.object.Ending.{Ending}
-use Rattle.rules.specs.declared.object.Ending.TheVariants as ending
+use Rattle.rules.specs.Ground.{Ending}
+use Rattle.rules.specs.declared.object.Failure.TheVariants as failure
 use Rattle.rules.specs.declared.mutex.Call.TheVariants as mutex-call
-use Rattle.rules.specs.declared.condvar.Wait.{Wait}
-use Rattle.rules.specs.declared.condvar.Wait.TheVariants.{On, Nowhere}
 use Rattle.rules.specs.declared.thread.State.TheVariants as state
 use Rattle.rules.specs.declared.thread.Phase.{Phase}
 use Rattle.rules.specs.declared.thread.Phase.TheVariants.{Nothing, Announced, Parked, Retaking}
-use Rattle.rules.specs.declared.thread.Answered.{Answered}
-use Rattle.rules.specs.declared.thread.Answered.TheVariants.{Kept}
 use Rattle.rules.specs.declared.thread.Thread.{Thread}
 use Rattle.rules.specs.declared.table.Call.{Call}
 use Rattle.rules.specs.declared.table.Call.TheVariants.{Mutex}
@@ -25,8 +21,6 @@ use Rattle.rules.specs.declared.table.Table.{Table}
 use Rattle.rules.specs.declared.answer.Answer.{Answer}
 use Rattle.rules.specs.declared.answer.Answer.TheVariants as answer
 use Rattle.rules.specs.declared.answer.Spot.{Spot}
-use Rattle.rules.specs.declared.world.Asked.{Asked}
-use Rattle.rules.specs.declared.world.Asked.TheVariants as asked
 use Rattle.rules.specs.declared.world.World.{World}
 use Rattle.rules.specs.declared.world.Step.{Step}
 use Rattle.rules.specs.declared.world.Step.TheVariants.{Refused, Done, Wants}
@@ -48,7 +42,7 @@ with_objects w es = record { threads = w.threads; objects = es; turn = w.turn; a
 abbrev pub with_turn : World → ℕ → World
 with_turn w n = record { threads = w.threads; objects = w.objects; turn = n; asked = w.asked }
 
-abbrev pub with_asked : World → Asked → World
+abbrev pub with_asked : World → Option ThreadId → World
 with_asked w a = record { threads = w.threads; objects = w.objects; turn = w.turn; asked = a }
 
 abbrev pub thread_in : World → ThreadId → Thread
@@ -123,7 +117,7 @@ operate t op turn e ts =
     (put_thread ts t (with_phase (with_dependence (thread_at ts t) v) Nothing))
 
 -- one more operation is done, and its answer left
-unfoldable pub advance : ThreadId → Answered → List Thread → List Thread
+unfoldable pub advance : ThreadId → Option ℕ → List Thread → List Thread
 advance t n ts = put_thread ts t (with_position (answering n (thread_at ts t)) (risen 255 (thread_at ts t).position))
 
 -- no operation is left
@@ -152,10 +146,10 @@ spot t op w = record { thread = t; position = (thread_in w t).position; object =
 
 -- a step's ending: a failing one is a verdict that shows the world `shown`, before the step
 unfoldable pub ending_of : Ending → Spot → World → Decided → Decided
-ending_of ending.Fine s shown next = next
-ending_of ending.Misuse s shown next = done (answer.Misuse s) shown
-ending_of ending.NoRoom s shown next = done (answer.NoRoom s) shown
-ending_of (ending.Race other) s shown next = done (answer.Race s other) shown
+ending_of (Ok ok) s shown next = next
+ending_of (Err failure.Misuse) s shown next = done (answer.Misuse s) shown
+ending_of (Err failure.NoRoom) s shown next = done (answer.NoRoom s) shown
+ending_of (Err (failure.Race other)) s shown next = done (answer.Race s other) shown
 
 -- "The thread goes on through operations that need no announcement .. and stops when it announces the next, .. or ends."
 unfoldable pub go_on : ThreadId → List Op → World → Decided
@@ -166,13 +160,13 @@ go_on t (op ∷ ops) w =
     let next = go_on t ops (with_threads (settled w op.object r) (advance t r.answer r.threads)) in
     elim (is_free op.call) [
       | true ↦ ending_of r.ending (spot t op w) w next
-      | false ↦ elim (asks op.call e) [ true ↦ wants (with_asked w (asked.Thread t)) | false ↦ after_turn (with_threads w (announce_op t op e w.threads)) ]
+      | false ↦ elim (asks op.call e) [ true ↦ wants (with_asked w (Some t)) | false ↦ after_turn (with_threads w (announce_op t op e w.threads)) ]
     ]
 
 -- what follows the effect of an announced operation, which leaves the answer n: a wait goes on to its mutex and its turn ends
-unfoldable pub thereafter : Wait → ThreadId → Answered → List Op → World → Decided
-thereafter Nowhere t n ops w = go_on t ops (with_threads w (advance t n w.threads))
-thereafter (On m) t n ops w = after_turn (settled w m (wait t m (entry_in w m) w.threads))
+unfoldable pub thereafter : Option ObjectId → ThreadId → Option ℕ → List Op → World → Decided
+thereafter None t n ops w = go_on t ops (with_threads w (advance t n w.threads))
+thereafter (Some m) t n ops w = after_turn (settled w m (wait t m (entry_in w m) w.threads))
 
 -- "If that thread has announced an operation": its effect, and what follows
 unfoldable pub operation : ThreadId → Op → List Op → World → Decided
@@ -183,9 +177,9 @@ operation t op ops w =
     ending_of r.ending (spot t op w) w next
 
 -- the mutex of a condvar wait; of another operation none
-abbrev pub mutex_of : Wait → ObjectId
-mutex_of Nowhere = record { 0 = 255 }
-mutex_of (On m) = m
+abbrev pub mutex_of : Option ObjectId → ObjectId
+mutex_of None = record { 0 = 255 }
+mutex_of (Some m) = m
 
 -- the turn of a thread, by its phase; `ops` are its operations that are not done
 unfoldable pub turn_of : Phase → ThreadId → List Op → World → Decided
@@ -204,29 +198,29 @@ ops_left table w t = drop (thread_in w t).position (ops_of table t.0)
 unfoldable pub begin : Table → World → ThreadId → Decided
 begin table w t = elim (is_runnable (thread_in w t).state) [ true ↦ turn_of (thread_in w t).phase t (ops_left table w t) w | false ↦ refused w ]
 
--- "On 1, did_spur is set, the wait is done, the thread stands runnable with no stored unpark and the turn ends; notified is untouched."
+-- "Some 1, did_spur is set, the wait is done, the thread stands runnable with no stored unpark and the turn ends; notified is untouched."
 unfoldable pub spurious : ThreadId → Op → World → World
 spurious t op w =
     let e = entry_in w op.object in
-    with_objects (with_threads w (advance t Kept (put_thread w.threads t (set_runnable (thread_in w t))))) (put_entry w.objects op.object (put_notify e (notify.spur e.notify)))
+    with_objects (with_threads w (advance t None (put_thread w.threads t (set_runnable (thread_in w t))))) (put_entry w.objects op.object (put_notify e (notify.spur e.notify)))
 
 -- "first takes a decision, 0 or 1 (else 23)"
 unfoldable pub question : ThreadId → Op → ℕ → World → Decided
 question t op d w =
-    let v = with_asked w asked.Nobody in
+    let v = with_asked w None in
     elim (eqb d 0) [
       | true ↦ after_turn (with_threads v (announce_op t op (entry_in w op.object) w.threads))
       | false ↦ elim (eqb d 1) [ true ↦ after_turn (spurious t op v) | false ↦ refused w ]
     ]
 
-unfoldable pub decide_at : Asked → Table → World → ℕ → Decided
-decide_at asked.Nobody table w d = begin table w (record { 0 = d })
-decide_at (asked.Thread t) table w d = question t (get_or (ops_left table w t) 0 no_op) d w
+unfoldable pub decide_at : Option ThreadId → Table → World → ℕ → Decided
+decide_at None table w d = begin table w (record { 0 = d })
+decide_at (Some t) table w d = question t (get_or (ops_left table w t) 0 no_op) d w
 
 -- the decisions that are not 23: "naming a runnable thread", and "0 or 1"
-abbrev pub is_allowed : Asked → List Thread → ℕ → Bool
-is_allowed asked.Nobody ts d = is_runnable (thread_at ts (record { 0 = d })).state
-is_allowed (asked.Thread t) ts d = leb d 1
+abbrev pub is_allowed : Option ThreadId → List Thread → ℕ → Bool
+is_allowed None ts d = is_runnable (thread_at ts (record { 0 = d })).state
+is_allowed (Some t) ts d = leb d 1
 
 -- one decision
 unfoldable pub decide : Table → World → ℕ → Decided
@@ -241,5 +235,5 @@ start table = record {
   threads = pass_from (start_thread table.thread_count) 0 (replicate max_threads absent);
   objects = map new_entry table.objects;
   turn = 0;
-  asked = asked.Nobody;
+  asked = None;
 }

@@ -1,14 +1,13 @@
 -- Document 01, demand 3: the smallest complete list, the next one, and what `runs` prints. Complete lists, their order and the statements that
 -- "first" and "next" have to meet are those of the crate `lists`, at the rule `step`: "A list is complete when it gives 0 to 5."
-use Rattle.std.specs.Prelude.{true, false, List, [], ◌∷◌, ◌++◌, ℕ, zero, suc, ◌+◌, ◌-◌, ◌*◌, ◌/◌, ◌%◌, leb, ltb, length, get_or}
-use Rattle.std.proofs.Math.Option.{Option, none, some}
+use Rattle.std.specs.Prelude.{true, false, List, [], ◌∷◌, ◌++◌, ℕ, zero, suc, ◌+◌, ◌-◌, ◌*◌, ◌/◌, ◌%◌, leb, ltb, length, get_or, None, Option, Some, Err, Ok}
+use Rattle.clocks.specs.declared.thread.ThreadId.{ThreadId}
+use Rattle.rules.specs.declared.object.ObjectId.{ObjectId}
 use Rattle.lists.specs.Judge.{Judged, not_allowed, surplus, unfinished, verdict, judge}
 use Rattle.lists.specs.Next as next
 use Rattle.lists.specs.Walk as walk
 use Rattle.rules.specs.declared.answer.Answer.{Answer}
 use Rattle.rules.specs.declared.answer.Answer.TheVariants.{NoLaterList, ListWritten, NotAllowed, Surplus, TooShort, NotComplete}
-use Rattle.rules.specs.declared.condvar.Wait.{Wait}
-use Rattle.rules.specs.declared.condvar.Wait.TheVariants.{On, Nowhere}
 use Rattle.rules.specs.Effect.{wait_of}
 use Rattle.clocks.specs.Clock.{max_threads}
 use Rattle.rules.specs.declared.table.Op.{Op}
@@ -16,11 +15,9 @@ use Rattle.rules.specs.declared.table.Table.{Table}
 use Rattle.rules.specs.declared.thread.Phase.{Phase}
 use Rattle.rules.specs.declared.thread.Phase.TheVariants.{Nothing, Announced, Parked, Retaking}
 use Rattle.rules.specs.declared.thread.Thread.{Thread}
-use Rattle.rules.specs.declared.world.Asked.{Asked}
-use Rattle.rules.specs.declared.world.Asked.TheVariants as asked
 use Rattle.rules.specs.declared.world.World.{World}
 use Rattle.rules.specs.Ground.{is_ended}
-use Rattle.rules.specs.Table.{Read, refused, accepted, read_table, no_op}
+use Rattle.rules.specs.Table.{Read, read_table, no_op}
 use Rattle.rules.specs.Answer.{numbers_of}
 use Rattle.rules.specs.Turn.{start, ops_left}
 use Rattle.rules.specs.Judge.{Verdict, step, Given, over, untouched}
@@ -30,9 +27,9 @@ abbrev pub decisions : ℕ
 decisions = max_threads
 
 -- the decision that an announced operation has behind it; a condvar wait has parking and retaking still before it, and none is taken off
-unfoldable pub waits_for : Wait → ℕ
-waits_for Nowhere = 1
-waits_for (On m) = 0
+unfoldable pub waits_for : Option ObjectId → ℕ
+waits_for None = 1
+waits_for (Some m) = 0
 
 unfoldable pub left_in : Phase → List Op → ℕ
 left_in Nothing ops = 3 * length ops + 1
@@ -48,9 +45,9 @@ left_from table w k [] = 0
 left_from table w k (t ∷ ts) = left_of t (ops_left table w (record { 0 = k })) + left_from table w (suc k) ts
 
 -- a thread that is asked has one decision behind it
-unfoldable pub asked_of : Asked → ℕ
-asked_of asked.Nobody = 0
-asked_of (asked.Thread t) = 1
+unfoldable pub asked_of : Option ThreadId → ℕ
+asked_of None = 0
+asked_of (Some t) = 1
 
 -- "operations and phases left as the falling number"
 unfoldable pub left : Table → World → ℕ
@@ -64,16 +61,16 @@ hand_over list buffer =
 
 -- "for "first": table, 25"
 unfoldable pub first_table : Read → List ℕ → Given
-first_table (refused a) buffer = untouched a buffer
-first_table (accepted table) buffer = hand_over (next.first_of (step table) decisions (left table) (start table)) buffer
+first_table (Err a) buffer = untouched a buffer
+first_table (Ok table) buffer = hand_over (next.first_of (step table) decisions (left table) (start table)) buffer
 
 unfoldable pub first_of : List ℕ → List ℕ → Given
 first_of table buffer = first_table (read_table table) buffer
 
 -- "no later list", or the list
 unfoldable pub next_list : Option (List ℕ) → List ℕ → Given
-next_list none buffer = untouched NoLaterList buffer
-next_list (some list) buffer = hand_over list buffer
+next_list None buffer = untouched NoLaterList buffer
+next_list (Some list) buffer = hand_over list buffer
 
 unfoldable pub next_judged : Judged World Verdict → Option (List ℕ) → List ℕ → Given
 next_judged (not_allowed i) found buffer = untouched (NotAllowed i) buffer
@@ -83,8 +80,8 @@ next_judged (verdict v) found buffer = next_list found buffer
 
 -- "For "next": table, 23 or 24, 26, 7, 25"
 unfoldable pub next_table : Read → List ℕ → List ℕ → Given
-next_table (refused a) list buffer = untouched a buffer
-next_table (accepted table) list buffer =
+next_table (Err a) list buffer = untouched a buffer
+next_table (Ok table) list buffer =
     let found = next.next_of (step table) decisions (left table) (start table) list in
     next_judged (judge (step table) 0 (start table) list) found buffer
 
@@ -124,8 +121,8 @@ refused_line a = 114 ∷ 101 ∷ 102 ∷ 117 ∷ 115 ∷ 101 ∷ 100 ∷ 32 ∷ 
 
 -- at most n lists of the walk
 unfoldable pub runs_table : ℕ → Read → List ℕ
-runs_table n (refused a) = refused_line a
-runs_table n (accepted table) = run_lines table (walk.walk (step table) decisions (left table) n (start table))
+runs_table n (Err a) = refused_line a
+runs_table n (Ok table) = run_lines table (walk.walk (step table) decisions (left table) n (start table))
 
 unfoldable pub runs_of : ℕ → List ℕ → List ℕ
 runs_of n table = runs_table n (read_table table)

@@ -1,8 +1,6 @@
 // loom's rt/arc.rs.
 use crate::access::Access;
-use crate::object::Ending;
-use crate::thread::{Answered, Thread};
-use clocks::{Clock, THREADS};
+use clocks::Clock;
 
 #[derive(Clone, Copy)]
 pub enum Call {
@@ -21,7 +19,6 @@ pub enum Action {
 
 #[derive(Clone, Copy)]
 pub enum RefModify {
-    Nothing,
     RefInc,
     RefDec,
 }
@@ -33,13 +30,5 @@ pub struct State {
     pub last_ref_inc: Access,
     pub last_ref_dec: Access,
     pub last_ref_inspect: Access,
-    pub last_ref_modification: RefModify,
-}
-
-#[derive(Clone, Copy)]
-pub struct Effect {
-    pub ending: Ending,
-    pub answer: Answered,
-    pub state: State,
-    pub threads: [Thread; THREADS],
+    pub last_ref_modification: Option<RefModify>,
 }

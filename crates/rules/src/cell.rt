@@ -1,7 +1,5 @@
 // loom's rt/cell.rs.
-use crate::object::Ending;
-use crate::thread::{Answered, Thread};
-use clocks::{Clock, THREADS};
+use clocks::Clock;
 
 #[derive(Clone, Copy)]
 pub enum Call {
@@ -17,12 +15,4 @@ pub struct State {
     pub is_writing: bool,
     pub read_access: Clock,
     pub write_access: Clock,
-}
-
-#[derive(Clone, Copy)]
-pub struct Effect {
-    pub ending: Ending,
-    pub answer: Answered,
-    pub state: State,
-    pub threads: [Thread; THREADS],
 }

@@ -1,8 +1,6 @@
 // loom's rt/mpsc.rs. The messages' clocks stand oldest first; a place that no message has holds the zero clock.
 use crate::access::Access;
-use crate::object::Ending;
-use crate::thread::{Answered, Thread};
-use clocks::{Clock, THREADS};
+use clocks::Clock;
 
 #[derive(Clone, Copy)]
 pub enum Call {
@@ -25,12 +23,4 @@ pub struct State {
     pub last_recv_access: Access,
     pub sender_synchronize: Clock,
     pub receiver_synchronize: [Clock; MESSAGES],
-}
-
-#[derive(Clone, Copy)]
-pub struct Effect {
-    pub ending: Ending,
-    pub answer: Answered,
-    pub state: State,
-    pub threads: [Thread; THREADS],
 }

@@ -1,8 +1,6 @@
 // loom's rt/notify.rs.
 use crate::access::Access;
-use crate::object::Ending;
-use crate::thread::{Answered, Thread};
-use clocks::{Clock, THREADS};
+use clocks::Clock;
 
 #[derive(Clone, Copy)]
 pub enum Call {
@@ -17,12 +15,4 @@ pub struct State {
     pub notified: bool,
     pub last_access: Access,
     pub synchronize: Clock,
-}
-
-#[derive(Clone, Copy)]
-pub struct Effect {
-    pub ending: Ending,
-    pub answer: Answered,
-    pub state: State,
-    pub threads: [Thread; THREADS],
 }

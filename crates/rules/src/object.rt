@@ -1,15 +1,16 @@
 // Objects, and operations that are announced on them (loom's rt/object.rs).
+use crate::thread::Thread;
 use crate::{arc, cell, condvar, mpsc, mutex, notify, rwlock};
-use clocks::ThreadId;
+use clocks::{THREADS, ThreadId};
 
 // An object's number, and never a thread's (loom's object::Ref).
-#[derive(Clone, Copy)]
+#[derive(Clone, Copy, PartialEq, Eq)]
 pub struct ObjectId(pub u8);
 
 // As many objects as a table may have.
 pub const OBJECTS: usize = 16;
 
-#[derive(Clone, Copy)]
+#[derive(Clone, Copy, PartialEq, Eq)]
 pub enum Kind {
     Mutex,
     RwLock,
@@ -48,11 +49,18 @@ pub struct Entry {
     pub cell: cell::State,
 }
 
-// How a step on an object ends.
+// How a step on an object fails.
 #[derive(Clone, Copy)]
-pub enum Ending {
-    Fine,
+pub enum Failure {
     Misuse,
     NoRoom,
     Race(ThreadId),
+}
+
+// What an operation leaves: its thread's last answer, or none where the one before stays; its object's state, and the threads.
+#[derive(Clone, Copy)]
+pub struct Effect<S> {
+    pub answer: Option<u16>,
+    pub state: S,
+    pub threads: [Thread; THREADS],
 }

@@ -1,8 +1,6 @@
 // loom's rt/rwlock.rs. The readers are a set: a mask with a bit for each thread.
 use crate::access::Access;
-use crate::object::Ending;
-use crate::thread::{Answered, Thread};
-use clocks::{Clock, THREADS, ThreadId};
+use clocks::{Clock, ThreadId};
 
 #[derive(Clone, Copy)]
 pub enum Call {
@@ -22,22 +20,13 @@ pub enum Action {
 
 #[derive(Clone, Copy)]
 pub enum Locked {
-    Free,
     Read(u16),
     Write(ThreadId),
 }
 
 #[derive(Clone, Copy)]
 pub struct State {
-    pub lock: Locked,
+    pub lock: Option<Locked>,
     pub last_access: Access,
     pub synchronize: Clock,
-}
-
-#[derive(Clone, Copy)]
-pub struct Effect {
-    pub ending: Ending,
-    pub answer: Answered,
-    pub state: State,
-    pub threads: [Thread; THREADS],
 }

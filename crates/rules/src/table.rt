@@ -1,5 +1,4 @@
 // A table: its objects, and each thread's operations.
-use crate::answer::Answer;
 use crate::mpsc::MESSAGES;
 use crate::object::{Kind, OBJECTS, ObjectId};
 use crate::{arc, cell, condvar, mpsc, mutex, notify, rwlock};
@@ -57,24 +56,4 @@ pub enum Record {
     Object(Made),
     Thread,
     Operation(Op),
-}
-
-// What the bytes at a place are read as.
-#[derive(Clone, Copy)]
-pub enum Parsed {
-    Whole(Record),
-    Bad,
-}
-
-// What reading a table comes to. A refused one hands back the empty table.
-#[derive(Clone, Copy)]
-pub enum Taken {
-    Accepted,
-    Refused(Answer),
-}
-
-#[derive(Clone, Copy)]
-pub struct TableRead {
-    pub taken: Taken,
-    pub table: Table,
 }

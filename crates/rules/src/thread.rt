@@ -31,13 +31,6 @@ pub struct Thread {
     pub dependence: Clock,
 }
 
-// What an operation leaves as its thread's last answer: a number, or the one before.
-#[derive(Clone, Copy)]
-pub enum Answered {
-    Kept,
-    Left(u16),
-}
-
 // How a pass changes each other thread that is announced on an object.
 #[derive(Clone, Copy)]
 pub enum Change {

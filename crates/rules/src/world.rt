@@ -4,19 +4,13 @@ use crate::object::{Entry, OBJECTS};
 use crate::thread::Thread;
 use clocks::{THREADS, ThreadId};
 
-// The thread that is asked whether its wait ends spuriously.
-#[derive(Clone, Copy)]
-pub enum Asked {
-    Nobody,
-    Thread(ThreadId),
-}
-
 #[derive(Clone, Copy)]
 pub struct World {
     pub threads: [Thread; THREADS],
     pub objects: [Entry; OBJECTS],
     pub turn: u16,
-    pub asked: Asked,
+    // The thread that is asked whether its wait ends spuriously.
+    pub asked: Option<ThreadId>,
 }
 
 #[derive(Clone, Copy)]

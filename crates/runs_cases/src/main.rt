@@ -13,9 +13,8 @@ fn list<R: Files + Print>(rt: &R, name: &str) -> io::Result<()> {
 }
 
 fn main(rt: HostRuntime) -> io::Result<()> {
-    list(&rt, "refused")?;
-    list(&rt, "empty")?;
-    list(&rt, "several")?;
-    list(&rt, "many")?;
-    list(&rt, "long")
+    for name in ["refused", "empty", "several", "many", "long"] {
+        list(&rt, name)?;
+    }
+    Ok(())
 }

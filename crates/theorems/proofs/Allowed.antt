@@ -1,13 +1,11 @@
 -- Which decisions document 01 allows: "naming a runnable thread, else 23", and "0 or 1 (else 23)".
-use Rattle.std.specs.Prelude.{◌≡◌, refl, true, ℕ, eqb, leb, get_or}
+use Rattle.std.specs.Prelude.{◌≡◌, refl, true, ℕ, eqb, leb, get_or, None, Option, Some}
 use Rattle.std.proofs.Common.{arith, le-leb, eqb-true}
 use Rattle.std.proofs.lemmas.Bool.{lt-leb, eqb-false}
 use Rattle.clocks.specs.declared.thread.ThreadId.{ThreadId}
 use Rattle.lists.specs.Rules.{allowedb, allowed}
 use Rattle.rules.specs.declared.table.Op.{Op}
 use Rattle.rules.specs.declared.table.Table.{Table}
-use Rattle.rules.specs.declared.world.Asked.{Asked}
-use Rattle.rules.specs.declared.world.Asked.TheVariants as asked
 use Rattle.rules.specs.declared.world.Step.{Step}
 use Rattle.rules.specs.declared.world.Step.TheVariants.{Refused, Done, Wants}
 use Rattle.rules.specs.declared.world.World.{World}
@@ -38,7 +36,7 @@ begins-allowed table w t =
 asks-allowed : (t : ThreadId) (op : Op) (d : ℕ) (w : World) → allowedb (outcome_of (question t op d w).step (question t op d w).world) ≡ leb d 1
 unfolding question outcome_of
 asks-allowed t op d w =
-    let v : World = with_asked w asked.Nobody in
+    let v : World = with_asked w None in
     let told : World = with_threads v (announce_op t op (entry_in w op.object) w.threads) in
     let woken : World = spurious t op v in
     split (eqb d 0) (λ e. rw (question, e, le-leb d 1 (omega (arith, eqb-true d 0 e))) (said_allowed (after_turn told) (after_said told.threads told.objects)))
@@ -50,6 +48,6 @@ pub allowed_is : (table : Table) (w : World) (d : ℕ) → allowed (step table) 
 unfolding step decide decide_at
 allowed_is table w d = go w.asked
   where
-    go : (a : Asked) → allowedb (outcome_of (decide_at a table w d).step (decide_at a table w d).world) ≡ is_allowed a w.threads d
-    go asked.Nobody = begins-allowed table w (record { 0 = d })
-    go (asked.Thread t) = asks-allowed t (get_or (ops_left table w t) 0 no_op) d w
+    go : (a : Option ThreadId) → allowedb (outcome_of (decide_at a table w d).step (decide_at a table w d).world) ≡ is_allowed a w.threads d
+    go None = begins-allowed table w (record { 0 = d })
+    go (Some t) = asks-allowed t (get_or (ops_left table w t) 0 no_op) d w

@@ -1,5 +1,5 @@
 -- The last answer: at most 192. Only strong_count leaves more than 1, and it sees what its own operation, not yet done, did not add. The words are in specs/Answers.antt.
-use Rattle.std.specs.Prelude.{◌≡◌, Bool, true, false, List, ℕ, ◌≤◌, eqb, ltb, get_or, drop}
+use Rattle.std.specs.Prelude.{◌≡◌, Bool, true, false, List, ℕ, ◌≤◌, eqb, ltb, get_or, drop, None, Option, Some, Ok}
 use Rattle.std.proofs.Math.Path.{refl}
 use Rattle.std.proofs.Common.{arith}
 use Rattle.clocks.specs.Clock.{max_threads}
@@ -7,7 +7,7 @@ use Rattle.clocks.specs.declared.clock.Clock.{Clock}
 use Rattle.clocks.specs.declared.thread.ThreadId.{ThreadId}
 use Rattle.rules.specs.declared.object.ObjectId.{ObjectId}
 use Rattle.rules.specs.declared.object.Entry.{Entry}
-use Rattle.rules.specs.declared.object.Ending.{Ending}
+use Rattle.rules.specs.Ground.{Ending}
 use Rattle.rules.specs.declared.mutex.Call.{Call as MutexCall}
 use Rattle.rules.specs.declared.mutex.Call.TheVariants as mutex-call
 use Rattle.rules.specs.declared.mutex.State.{State as MutexState}
@@ -31,8 +31,6 @@ use Rattle.rules.specs.declared.cell.Call.TheVariants as cell-call
 use Rattle.rules.specs.declared.cell.State.{State as CellState}
 use Rattle.rules.specs.declared.thread.Phase.{Phase}
 use Rattle.rules.specs.declared.thread.Thread.{Thread}
-use Rattle.rules.specs.declared.thread.Answered.{Answered}
-use Rattle.rules.specs.declared.thread.Answered.TheVariants.{Kept, Left}
 use Rattle.rules.specs.declared.table.Call.{Call}
 use Rattle.rules.specs.declared.table.Call.TheVariants.{Mutex, RwLock, Condvar, Notify, Channel, Arc, Cell}
 use Rattle.rules.specs.declared.table.Op.{Op}
@@ -48,7 +46,7 @@ use Rattle.rules.specs.Arc as arc
 use Rattle.rules.specs.Notify as notify
 use Rattle.rules.specs.Condvar as condvar
 use Rattle.rules.specs.Cell as cell
-use Rattle.rules.specs.Table.{no_op, ops_of, accepted, read_table}
+use Rattle.rules.specs.Table.{no_op, ops_of, read_table}
 use Rattle.rules.specs.TableLaws.{Within}
 use Rattle.rules.proofs.TableLaws.{by_test, read-within}
 use Rattle.rules.specs.Effect.{doing, effect}
@@ -70,9 +68,9 @@ use Rattle.theorems.proofs.Counts.{arc_counted}
 use Rattle.theorems.specs.Answers.{most_answer, Said, AllSaid}
 
 -- an answer that an operation leaves
-abbrev Leaves : ℕ → Answered → Type 0
-Leaves b Kept = Unit {0}
-Leaves b (Left m) = m ≤ b
+abbrev Leaves : ℕ → Option ℕ → Type 0
+Leaves b None = Unit {0}
+Leaves b (Some m) = m ≤ b
 
 abbrev Says : {S : Type 0} → ℕ → Does S → Type 0
 Says b d = Leaves b d.answer
@@ -163,10 +161,10 @@ unfolding announced
 announced_put t ts f d h = record { hold = put_holds max_threads Said t ts _ h.hold (by_test (Said t.0) d (λ z. h.hold.1 t.0) (λ z. h.hold.1 t.0)) }
 
 -- one operation more is done
-advanced : (t : ThreadId) (n : Answered) (ts : List Thread) → Leaves most_answer n → AllSaid ts → AllSaid (advance t n ts)
+advanced : (t : ThreadId) (n : Option ℕ) (ts : List Thread) → Leaves most_answer n → AllSaid ts → AllSaid (advance t n ts)
 unfolding advance
-advanced t Kept ts l h = record { hold = put_holds max_threads Said t ts _ h.hold (h.hold.1 t.0) }
-advanced t (Left m) ts l h = record { hold = put_holds max_threads Said t ts _ h.hold l }
+advanced t None ts l h = record { hold = put_holds max_threads Said t ts _ h.hold (h.hold.1 t.0) }
+advanced t (Some m) ts l h = record { hold = put_holds max_threads Said t ts _ h.hold l }
 
 parked : (t : ThreadId) (m : ObjectId) (e : Entry) (ts : List Thread) → AllSaid ts → AllSaid (park t m e ts)
 unfolding park retake
@@ -226,7 +224,7 @@ module _ (table : Table) where
     answers a =
         record {
           goes = λ op o. (a.goes op o, announced_put t w.threads _ _ h);
-          wakes = λ op o. (a.wakes op o, advanced t Kept _ tt (same_put t w.threads (set_runnable (thread_in w t)) refl h));
+          wakes = λ op o. (a.wakes op o, advanced t None _ tt (same_put t w.threads (set_runnable (thread_in w t)) refl h));
         }
 
   -- each decision keeps it
@@ -243,7 +241,7 @@ module _ (table : Table) where
   start_said = record { hold = start_holds Said table (λ k. omega arith) (λ k x l h. h) }
 
 -- in every world that the sheet of an accepted table shows
-pub answer_most : (bs list : List ℕ) (table : Table) (w : World) → read_table bs ≡ accepted table → Shown table list w → (t : ThreadId) → (thread_in w t).last_answer ≤ most_answer
+pub answer_most : (bs list : List ℕ) (table : Table) (w : World) → read_table bs ≡ Ok table → Shown table list w → (t : ThreadId) → (thread_in w t).last_answer ≤ most_answer
 answer_most bs list table w a e t =
     let h = read-within bs table a in
     let r = shown_by table h.0 (λ u v. Orderly table v × In table v)

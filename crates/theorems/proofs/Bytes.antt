@@ -1,5 +1,5 @@
 -- Every number of a sheet is a byte. The words are in specs/Bytes.antt.
-use Rattle.std.specs.Prelude.{◌≡◌, Bool, true, false, ℕ, zero, suc, ◌≤◌, ◌<◌, ltb, get_or, take, drop}
+use Rattle.std.specs.Prelude.{◌≡◌, Bool, true, false, ℕ, zero, suc, ◌≤◌, ◌<◌, ltb, get_or, take, drop, None, Option, Some, Ok}
 use Rattle.std.proofs.Common.{sym, subst, ltb-true, ltb-false}
 use mathlib.Core.List.{List, [], ◌∷◌, ◌++◌, map}
 use native.Mathlib.Omega.{arith}
@@ -10,8 +10,6 @@ use Rattle.clocks.specs.declared.thread.ThreadId.{ThreadId}
 use Rattle.rules.specs.declared.object.Kind.{Kind}
 use Rattle.rules.specs.declared.object.Kind.TheVariants as kind
 use Rattle.rules.specs.declared.object.Entry.{Entry}
-use Rattle.rules.specs.declared.mutex.Lock.{Lock}
-use Rattle.rules.specs.declared.mutex.Lock.TheVariants as lock
 use Rattle.rules.specs.declared.condvar.State.{State as CondvarState}
 use Rattle.rules.specs.declared.rwlock.Locked.{Locked}
 use Rattle.rules.specs.declared.rwlock.Locked.TheVariants as locked
@@ -28,7 +26,7 @@ use Rattle.rules.specs.Ground.{flag, absent}
 use Rattle.rules.specs.Object.{new_entry, no_object}
 use Rattle.rules.specs.Condvar as condvar
 use Rattle.rules.specs.Sheet.{filled, each, byte, number, clock_bytes, state_byte, phase_byte, thread_bytes, holder_byte, mutex_bytes, form_byte, who_byte, rwlock_bytes, condvar_bytes, notify_bytes, channel_bytes, arc_bytes, cell_bytes, object_bytes, objects_bytes, sheet_of}
-use Rattle.rules.specs.Table.{accepted, read_table}
+use Rattle.rules.specs.Table.{read_table}
 use Rattle.rules.proofs.TableLaws.{split, read-within}
 use Rattle.rules.specs.Turn.{thread_in}
 use Rattle.theorems.specs.Reached.{Shown}
@@ -93,22 +91,22 @@ flag_low false = omega arith
 byte_low : (n : ℕ) → byte n < 256
 byte_low n = omega arith
 
-holder_low : (n : ℕ) → n ≤ max_threads → (l : Lock) → Holding n l → holder_byte l < 256
+holder_low : (n : ℕ) → n ≤ max_threads → (l : Option ThreadId) → Holding n l → holder_byte l < 256
 unfolding holder_byte
-holder_low n few lock.Free h = omega arith
-holder_low n few (lock.Held t) h = omega (arith, h, few)
+holder_low n few None h = omega arith
+holder_low n few (Some t) h = omega (arith, h, few)
 
-form_low : (l : Locked) → form_byte l < 256
+form_low : (l : Option Locked) → form_byte l < 256
 unfolding form_byte
-form_low locked.Free = omega arith
-form_low (locked.Read m) = omega arith
-form_low (locked.Write t) = omega arith
+form_low None = omega arith
+form_low (Some (locked.Read m)) = omega arith
+form_low (Some (locked.Write t)) = omega arith
 
-who_low : (n : ℕ) → n ≤ max_threads → (l : Locked) → Reading n l → who_byte l < 256
+who_low : (n : ℕ) → n ≤ max_threads → (l : Option Locked) → Reading n l → who_byte l < 256
 unfolding who_byte
-who_low n few locked.Free h = omega arith
-who_low n few (locked.Read m) h = byte_low m
-who_low n few (locked.Write t) h = omega (arith, h, few)
+who_low n few None h = omega arith
+who_low n few (Some (locked.Read m)) h = byte_low m
+who_low n few (Some (locked.Write t)) h = omega (arith, h, few)
 
 waiter_low : (n : ℕ) → n ≤ max_threads → (s : CondvarState) → Waiting n s → (k : ℕ) → get_or (map number s.waiters) k 255 < 256
 waiter_low n few s h k =
@@ -164,7 +162,7 @@ unfolding thread_bytes
 thread_bytes_lem t l p q = (omega arith, (state_low t.state, (l, (phase_low t.phase, (byte_low t.last_answer, two_clocks t.clock t.dependence p q)))))
 
 -- in every world that the sheet of an accepted table shows
-pub sheet_bytes : (bs list : List ℕ) (table : Table) (w : World) → read_table bs ≡ accepted table → Shown table list w → Bytes (sheet_of table w)
+pub sheet_bytes : (bs list : List ℕ) (table : Table) (w : World) → read_table bs ≡ Ok table → Shown table list w → Bytes (sheet_of table w)
 unfolding sheet_of
 sheet_bytes bs list table w a e =
     let n : ℕ = table.thread_count in

@@ -1,6 +1,6 @@
 -- The counts whose type ends at 255: positions and clocks. In every world that a sheet shows a position is at most 32, every count of every clock, a thread's, an
 -- object's or a message's, at most 32, and every count of every dependence clock, a thread's or a recorded access's, at most 64. The words are in specs/Clocks.antt.
-use Rattle.std.specs.Prelude.{◌≡◌, refl, Bool, true, false, List, ℕ, ◌+◌, ◌≤◌, ◌<◌, eqb, length, get_or}
+use Rattle.std.specs.Prelude.{◌≡◌, refl, Bool, true, false, List, ℕ, ◌+◌, ◌≤◌, ◌<◌, eqb, length, get_or, Some, Ok}
 use Rattle.std.proofs.Common.{sym, arith, eqb-true}
 use Rattle.std.proofs.lemmas.Bool.{eqb-false}
 use Rattle.clocks.specs.Clock.{join_of}
@@ -11,12 +11,11 @@ use Rattle.rules.specs.declared.thread.Phase.TheVariants.{Nothing, Announced, Pa
 use Rattle.rules.specs.declared.table.Call.{Call}
 use Rattle.rules.specs.declared.table.Op.{Op}
 use Rattle.rules.specs.declared.table.Table.{Table}
-use Rattle.rules.specs.declared.world.Asked.TheVariants as asked
 use Rattle.rules.specs.declared.world.World.{World}
 use Rattle.rules.specs.Limits.{max_operations}
 use Rattle.rules.specs.Ground.{thread_at}
 use Rattle.rules.specs.Effect.{last_dependent_access}
-use Rattle.rules.specs.Table.{accepted, read_table}
+use Rattle.rules.specs.Table.{read_table}
 use Rattle.rules.specs.TableLaws.{Within}
 use Rattle.rules.proofs.TableLaws.{split, read-within}
 use Rattle.rules.specs.Turn.{thread_in, entry_in, start, ops_left, decide}
@@ -76,7 +75,7 @@ module _ (k : ℕ) where
         go false e = (other_turn k h.bound h.depth t (λ f. eqb-false t.0 k e (sym f)) table w h.clocks).0
 
     -- an answer to a question, likewise
-    answers : (t : ThreadId) → w.asked ≡ asked.Thread t → Ready table (asked.Thread t) w.threads → Answers table w t (Bounded k)
+    answers : (t : ThreadId) → w.asked ≡ Some t → Ready table (Some t) w.threads → Answers table w t (Bounded k)
     answers t q r =
         split (eqb t.0 k) (λ e. own_answers k t r.0 (eqb-true t.0 k e) table n w h.bound h.depth h.clocks r)
         (λ e. (other_turn k h.bound h.depth t (λ f. eqb-false t.0 k e (sym f)) table w h.clocks).1)
@@ -90,7 +89,7 @@ module _ (k : ℕ) where
     each_spare = decide-each table n w g (Spare k) (λ t. MidOf (eqb t.0 k)) (Bounded k) h begins answers
 
 -- every world that the sheet of an accepted table shows
-module _ (bs list : List ℕ) (table : Table) (w : World) (a : read_table bs ≡ accepted table) (e : Shown table list w) where
+module _ (bs list : List ℕ) (table : Table) (w : World) (a : read_table bs ≡ Ok table) (e : Shown table list w) where
   -- each thread's place of every clock is bounded
   bounded : (k : ℕ) → Bounded k w
   bounded =
@@ -132,7 +131,7 @@ module _ (bs list : List ℕ) (table : Table) (w : World) (a : read_table bs ≡
       (last_version (At k most_own) (At k most_dependence) (zero_at k most_own) (zero_at k most_dependence) x (entry_in w o) (object_few o k))
 
 -- a position and an own count, before each effect of a further decision
-pub counts_below : (bs list : List ℕ) (table : Table) (w : World) → read_table bs ≡ accepted table → Reached table list w
+pub counts_below : (bs list : List ℕ) (table : Table) (w : World) → read_table bs ≡ Ok table → Reached table list w
     → (d : ℕ) → Each (λ t c x ts. ((thread_at ts t).position < max_operations) × (get_or (thread_at ts t).clock.counts t.0 0 < most_own)) table w d
 counts_below bs list table w a e d =
     let h = each_spare d table (read-within bs table a).0 w (reached_good bs list table w a e) (bounded bs list table w a (reached-shown table list w e) d) d in

@@ -1,5 +1,5 @@
 -- Demand 3 of the code: whatever code keeps its promises of bytes walks as the rules do, since every complete list is a list of bytes.
-use Rattle.std.specs.Prelude.{◌≡◌, refl, ◌⊎◌, ◌↔◌, true, List, [], ◌∷◌, ℕ, suc, ◌≤◌, T, ltb, length}
+use Rattle.std.specs.Prelude.{◌≡◌, refl, ◌⊎◌, ◌↔◌, true, List, [], ◌∷◌, ℕ, suc, ◌≤◌, T, ltb, length, Ok}
 use Rattle.std.proofs.Common.{sym, subst, inl, inr, arith, lt-ltb}
 use Rattle.lists.specs.Rules as lists
 use Rattle.lists.proofs.Rules as lists-laws
@@ -8,7 +8,7 @@ use Rattle.lists.specs.Walk.{In, Enumerates}
 use Rattle.rules.specs.declared.table.Table.{Table}
 use Rattle.rules.specs.declared.world.World.{World}
 use Rattle.rules.specs.Limits.{max_list}
-use Rattle.rules.specs.Table.{accepted, read_table}
+use Rattle.rules.specs.Table.{read_table}
 use Rattle.rules.specs.TableLaws.{Within}
 use Rattle.rules.proofs.TableLaws.{read-within}
 use Rattle.rules.specs.Turn.{start}
@@ -38,7 +38,7 @@ bytes_from table n (d ∷ l) w g c = rw (is_bytes, small) (go (lists-laws.comple
     go (inl a) ih = rw a.2 tt
     go (inr a) ih = ih a.0 (keeps table n w d a.0 g a.1) a.2
 
-module _ (bs : List ℕ) (table : Table) (e : read_table bs ≡ accepted table) where
+module _ (bs : List ℕ) (table : Table) (e : read_table bs ≡ Ok table) where
   pub complete_bytes : (list : List ℕ) → Complete table list → T (is_bytes list)
   complete_bytes list c = let h = read-within bs table e in bytes_from table h.0 list (start table) (start_good table h.0 h.1) c
 

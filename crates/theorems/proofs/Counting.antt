@@ -1,6 +1,6 @@
 -- Counting, in one law: in every world that a sheet shows, an object's count and what took from it make what it started with and what added to it, by the
 -- operations before each thread's position. The words are in specs/Counting.antt.
-use Rattle.std.specs.Prelude.{◌≡◌, Bool, true, take}
+use Rattle.std.specs.Prelude.{◌≡◌, Bool, true, take, None, Option, Some, Ok}
 use Rattle.std.proofs.Math.Path.{refl, sym, ap}
 use Rattle.std.proofs.Common.{◌∙◌, subst, arith, get_or-set_same}
 use mathlib.Core.List.{List, [], ◌∷◌}
@@ -10,27 +10,22 @@ use Rattle.clocks.specs.Clock.{max_threads, risen}
 use Rattle.clocks.specs.declared.thread.ThreadId.{ThreadId}
 use Rattle.rules.specs.declared.object.ObjectId.{ObjectId}
 use Rattle.rules.specs.declared.object.Entry.{Entry}
-use Rattle.rules.specs.declared.object.Ending.TheVariants as ending
 use Rattle.rules.specs.declared.mutex.Call.{Call as MutexCall}
 use Rattle.rules.specs.declared.mutex.Call.TheVariants as mutex-call
-use Rattle.rules.specs.declared.condvar.Wait.TheVariants.{On}
 use Rattle.rules.specs.declared.thread.Phase.{Phase}
 use Rattle.rules.specs.declared.thread.Phase.TheVariants.{Nothing, Announced, Parked, Retaking}
 use Rattle.rules.specs.declared.thread.Thread.{Thread}
-use Rattle.rules.specs.declared.thread.Answered.{Answered}
-use Rattle.rules.specs.declared.thread.Answered.TheVariants.{Kept}
 use Rattle.rules.specs.declared.table.Call.{Call}
 use Rattle.rules.specs.declared.table.Call.TheVariants.{Mutex}
 use Rattle.rules.specs.declared.table.Op.{Op}
 use Rattle.rules.specs.declared.table.Table.{Table}
-use Rattle.rules.specs.declared.world.Asked.TheVariants as asked
 use Rattle.rules.specs.declared.world.World.{World}
 use Rattle.rules.specs.Limits.{max_objects, op_places}
 use Rattle.rules.specs.Ground.{absent, thread_at, put_thread, with_position, with_answer, set_runnable, has_unpark}
 use Rattle.rules.specs.Object.{new_entry, no_object, put_entry, announced}
 use Rattle.rules.specs.Mutex as mutex
 use Rattle.rules.specs.Notify as notify
-use Rattle.rules.specs.Table.{no_op, ops_of, accepted, read_table}
+use Rattle.rules.specs.Table.{no_op, ops_of, read_table}
 use Rattle.rules.specs.TableLaws.{Within}
 use Rattle.rules.proofs.TableLaws.{by_test, read-within}
 use Rattle.rules.specs.Effect.{asks, wait_of, doing, effect}
@@ -62,7 +57,7 @@ module _ (N : Entry → ℕ) (first : ℕ) (up down : Call → ℕ) (counted : C
 
   -- an effect that goes well, of an operation not yet done
   effect_law : (D U : ℕ → ℕ) (es : List Entry) (t : ThreadId) (op : Op) (e : Entry) (ts : List Thread) → op.object.0 < length es → N e ≡ N (get_or es op.object.0 (new_entry no_object))
-      → N e < 65535 → (effect op.call t op.object e ts).ending ≡ ending.Fine → Law D U es
+      → N e < 65535 → (effect op.call t op.object e ts).ending ≡ Ok tt → Law D U es
       → Law (λ k. D k + on_object down k op) (λ k. U k + on_object up k op) (put_entry es op.object (effect op.call t op.object e ts).entry)
   unfolding effect
   effect_law D U es t op e ts l same below fine h =
@@ -130,7 +125,7 @@ module _ (N : Entry → ℕ) (first : ℕ) (up down : Call → ℕ) (counted : C
       low t l ts es c some o = omega (arith, c.law o, done_less table limits up counted.small o ts c.long t l some)
 
       -- an operation in effect, whose sums `D` and `U` are those of one done, and its thread one further
-      further-by : (t : ThreadId) → t.0 < max_threads → (n : Answered) (ts : List Thread) (es : List Entry) (op next : Op) (ops : List Op) → length ts ≡ max_threads → length es ≡ max_objects
+      further-by : (t : ThreadId) → t.0 < max_threads → (n : Option ℕ) (ts : List Thread) (es : List Entry) (op next : Op) (ops : List Op) → length ts ≡ max_threads → length es ≡ max_objects
           → drop (thread_at ts t).position (ops_of table t.0) ≡ next ∷ ops → ((k : ℕ) → on_object down k op ≡ on_object down k next) → ((k : ℕ) → on_object up k op ≡ on_object up k next)
           → Law (λ k. done_of table down k ts + on_object down k op) (λ k. done_of table up k ts + on_object up k op) es → Counts (advance t n ts) es
       unfolding advance
@@ -149,7 +144,7 @@ module _ (N : Entry → ℕ) (first : ℕ) (up down : Call → ℕ) (counted : C
 
       -- an effect goes well, and leaves the operation in effect
       in_effect_lem : (t : ThreadId) (op : Op) (e : Entry) (ts : List Thread) (es : List Entry) → op.object.0 < max_objects → N e ≡ N (get_or es op.object.0 (new_entry no_object)) → N e < first + op_places
-          → (effect op.call t op.object e ts).ending ≡ ending.Fine → Counts ts es
+          → (effect op.call t op.object e ts).ending ≡ Ok tt → Counts ts es
           → Law (λ k. done_of table down k (effect op.call t op.object e ts).threads + on_object down k op) (λ k. done_of table up k (effect op.call t op.object e ts).threads + on_object up k op)
           (put_entry es op.object (effect op.call t op.object e ts).entry)
       in_effect_lem t op e ts es l same below fine c =
@@ -160,7 +155,7 @@ module _ (N : Entry → ℕ) (first : ℕ) (up down : Call → ℕ) (counted : C
 
       -- one that comes to nothing is as good as none
       no_effect : (t : ThreadId) (op : Op) (e : Entry) (ts : List Thread) (es : List Entry) → op.object.0 < max_objects → N e ≡ N (get_or es op.object.0 (new_entry no_object)) → N e < first + op_places
-          → up op.call ≡ 0 → down op.call ≡ 0 → (effect op.call t op.object e ts).ending ≡ ending.Fine → Counts ts es
+          → up op.call ≡ 0 → down op.call ≡ 0 → (effect op.call t op.object e ts).ending ≡ Ok tt → Counts ts es
           → Counts (effect op.call t op.object e ts).threads (put_entry es op.object (effect op.call t op.object e ts).entry)
       no_effect t op e ts es l same below p q fine c =
           record {
@@ -203,7 +198,7 @@ module _ (N : Entry → ℕ) (first : ℕ) (up down : Call → ℕ) (counted : C
             }
 
         -- an operation on a mutex
-        locked : (m : ObjectId) (c : MutexCall) (v : World) → m.0 < max_objects → (effect (Mutex c) t m (entry_in v m) v.threads).ending ≡ ending.Fine → N (entry_in v m) < first + op_places → InWorld v
+        locked : (m : ObjectId) (c : MutexCall) (v : World) → m.0 < max_objects → (effect (Mutex c) t m (entry_in v m) v.threads).ending ≡ Ok tt → N (entry_in v m) < first + op_places → InWorld v
             → Counts (effect (Mutex c) t m (entry_in v m) v.threads).threads (put_entry v.objects m (effect (Mutex c) t m (entry_in v m) v.threads).entry)
         locked m c v l z below h =
             no_effect t (record { call = Mutex c; object = m }) (entry_in v m) v.threads v.objects l refl below (counted.locks c).0 (counted.locks c).1 z h
@@ -216,7 +211,7 @@ module _ (N : Entry → ℕ) (first : ℕ) (up down : Call → ℕ) (counted : C
             (λ z. put_thread_lem ts es t _ refl h)
 
         -- releasing goes well
-        released : (m : ObjectId) (e : Entry) (ts : List Thread) → (effect (Mutex mutex-call.ReleaseLock) t m e ts).ending ≡ ending.Fine
+        released : (m : ObjectId) (e : Entry) (ts : List Thread) → (effect (Mutex mutex-call.ReleaseLock) t m e ts).ending ≡ Ok tt
         unfolding effect doing mutex.doing
         released m e ts = refl
 
@@ -282,17 +277,17 @@ module _ (N : Entry → ℕ) (first : ℕ) (up down : Call → ℕ) (counted : C
               }
 
           -- a wait is in effect, and then queued
-          in_wait : (op : Op) (m : ObjectId) → Takes (thread_in w t).phase (ops_left table w t) op → wait_of op.call ≡ On m → Succeeds t op w → InWorld (in_effect t op w)
+          in_wait : (op : Op) (m : ObjectId) → Takes (thread_in w t).phase (ops_left table w t) op → wait_of op.call ≡ Some m → Succeeds t op w → InWorld (in_effect t op w)
           unfolding operate
           in_wait op m takes f s =
               let z = counted.waits op.call m f in
               no_effect t op (recorded t op w) (dependent t op w) w.objects (taken op takes).1 (noted op) (below op takes) z.0 z.1 s (before op)
 
-          mutex_below : (op : Op) (m : ObjectId) → Takes (thread_in w t).phase (ops_left table w t) op → wait_of op.call ≡ On m → Succeeds t op w → N (entry_in (in_effect t op w) m) < first + op_places
+          mutex_below : (op : Op) (m : ObjectId) → Takes (thread_in w t).phase (ops_left table w t) op → wait_of op.call ≡ Some m → Succeeds t op w → N (entry_in (in_effect t op w) m) < first + op_places
           mutex_below op m takes f s =
               low t within (in_effect t op w).threads (in_effect t op w).objects (in_wait op m takes f s) (subst (λ (os : List Op). 0 < length os) (sym (stood op)) (taken op takes).0) m.0
 
-          queued : (op : Op) (m : ObjectId) → Takes (thread_in w t).phase (ops_left table w t) op → op ≡ get_or (ops_left table w t) 0 no_op → wait_of op.call ≡ On m → Succeeds t op w → InWorld (waiting t m (in_effect t op w))
+          queued : (op : Op) (m : ObjectId) → Takes (thread_in w t).phase (ops_left table w t) op → op ≡ get_or (ops_left table w t) 0 no_op → wait_of op.call ≡ Some m → Succeeds t op w → InWorld (waiting t m (in_effect t op w))
           queued op m takes o f s =
               let l : m.0 < max_objects = subst MutexNamed f (subst Named (sym o) (named (thread_in w t).position 0)).1 in
               waited m (in_effect t op w) l (mutex_below op m takes f s) (in_wait op m takes f s)
@@ -312,7 +307,7 @@ module _ (N : Entry → ℕ) (first : ℕ) (up down : Call → ℕ) (counted : C
               }
 
           -- an answer to a question
-          pub answers : AskedIs table (asked.Thread t) w → Answers table w t InWorld
+          pub answers : AskedIs table (Some t) w → Answers table w t InWorld
           unfolding announce_op spurious
           answers a =
               record {
@@ -320,7 +315,7 @@ module _ (N : Entry → ℕ) (first : ℕ) (up down : Call → ℕ) (counted : C
                 wakes = λ op o. woken op o (ops_left table w t) refl a.2;
               }
             where
-              woken : (op : Op) → op ≡ get_or (ops_left table w t) 0 no_op → (os : List Op) → ops_left table w t ≡ os → 0 < length os → InWorld (spurious t op (record { threads = w.threads; objects = w.objects; turn = w.turn; asked = asked.Nobody }))
+              woken : (op : Op) → op ≡ get_or (ops_left table w t) 0 no_op → (os : List Op) → ops_left table w t ≡ os → 0 < length os → InWorld (spurious t op (record { threads = w.threads; objects = w.objects; turn = w.turn; asked = None }))
               woken op o [] e l = absurd (omega (arith, l))
               woken op o (next ∷ ops) e l =
                   let z = counted.questions op.call (entry_in w op.object) (subst (λ (x : Op). asks x.call (entry_in w x.object) ≡ true) (sym o) a.3) in
@@ -329,7 +324,7 @@ module _ (N : Entry → ℕ) (first : ℕ) (up down : Call → ℕ) (counted : C
                   let c = put_thread_lem w.threads w.objects t (set_runnable (thread_in w t)) refl h in
                   let p : drop (thread_at us t).position (ops_of table t.0) ≡ next ∷ ops =
                   ap (λ (x : Thread). drop x.position (ops_of table t.0)) (get_or-set_same w.threads t.0 (set_runnable (thread_in w t)) absent (omega (arith, within, h.long))) ∙ e in
-                  further-by t within Kept us _ op next ops c.long (length-set w.objects op.object.0 _ ∙ c.store) p (λ k. ap (on_object down k) (sym q)) (λ k. ap (on_object up k) (sym q))
+                  further-by t within None us _ op next ops c.long (length-set w.objects op.object.0 _ ∙ c.store) p (λ k. ap (on_object down k) (sym q)) (λ k. ap (on_object up k) (sym q))
                   (put_law _ _ w.objects op.object _ (counted.spurs (entry_in w op.object) (notify.spur (entry_in w op.object).notify))
                   (λ k. omega (arith, c.law k, on_none down k op z.1, on_none up k op z.0)))
 
@@ -363,7 +358,7 @@ module _ (N : Entry → ℕ) (first : ℕ) (up down : Call → ℕ) (counted : C
           }
 
   -- in every world that the sheet of an accepted table shows
-  pub counts : (bs list : List ℕ) (table : Table) (w : World) → read_table bs ≡ accepted table → Shown table list w → InWorld table w
+  pub counts : (bs list : List ℕ) (table : Table) (w : World) → read_table bs ≡ Ok table → Shown table list w → InWorld table w
   counts bs list table w a e =
       let h = read-within bs table a in
       (shown_by table h.0 (λ u v. Orderly table v × InWorld table v)
@@ -371,13 +366,13 @@ module _ (N : Entry → ℕ) (first : ℕ) (up down : Call → ℕ) (counted : C
       (start_orderly table, start_counts table h.0 (objects_there bs table a)) list w e).1.1
 
   -- so the count is at most that and all places for operations
-  pub count_most : (bs list : List ℕ) (table : Table) (w : World) → read_table bs ≡ accepted table → Shown table list w → (o : ObjectId) → N (entry_in w o) ≤ first + op_places
+  pub count_most : (bs list : List ℕ) (table : Table) (w : World) → read_table bs ≡ Ok table → Shown table list w → (o : ObjectId) → N (entry_in w o) ≤ first + op_places
   count_most bs list table w a e o =
       let c = counts bs list table w a e in
       omega (arith, c.law o.0, done_most table (read-within bs table a).0 up counted.small o.0 w.threads c.long)
 
   -- and less before each effect of a further decision
-  pub count_below : (bs list : List ℕ) (table : Table) (w : World) → read_table bs ≡ accepted table → Reached table list w → (d : ℕ) → Each (Below table) table w d
+  pub count_below : (bs list : List ℕ) (table : Table) (w : World) → read_table bs ≡ Ok table → Reached table list w → (d : ℕ) → Each (Below table) table w d
   count_below bs list table w a e =
       let s = reached-shown table list w e in
       each_below table (read-within bs table a).0 (ops_named bs table a) w (reached_good bs list table w a e) (orderly bs list table w a s) (counts bs list table w a s)

@@ -1,5 +1,5 @@
 -- The law of counting, three times: a channel's messages, an Arc's count, a cell's readers. The words are in specs/Counts.antt.
-use Rattle.std.specs.Prelude.{◌≡◌, Bool, true, false, not, ◌||◌, List, ℕ, ◌+◌, ◌≤◌, ◌<◌, eqb, ltb}
+use Rattle.std.specs.Prelude.{◌≡◌, Bool, true, false, not, ◌||◌, List, ℕ, ◌+◌, ◌≤◌, ◌<◌, eqb, ltb, Some, Err, Ok}
 use Rattle.std.proofs.Math.Path.{refl}
 use Rattle.std.proofs.Common.{sym, ◌∙◌, ap, arith}
 use Rattle.std.proofs.lemmas.Bool.{false≢true, eqb-false}
@@ -8,8 +8,8 @@ use Rattle.clocks.specs.declared.thread.ThreadId.{ThreadId}
 use Rattle.rules.specs.declared.access.Access.{Access}
 use Rattle.rules.specs.declared.object.ObjectId.{ObjectId}
 use Rattle.rules.specs.declared.object.Entry.{Entry}
-use Rattle.rules.specs.declared.object.Ending.{Ending}
-use Rattle.rules.specs.declared.object.Ending.TheVariants as ending
+use Rattle.rules.specs.Ground.{Ending}
+use Rattle.rules.specs.declared.object.Failure.TheVariants as failure
 use Rattle.rules.specs.declared.arc.Call.{Call as ArcCall}
 use Rattle.rules.specs.declared.arc.Call.TheVariants as arc-call
 use Rattle.rules.specs.declared.arc.State.{State as ArcState}
@@ -19,7 +19,6 @@ use Rattle.rules.specs.declared.cell.State.{State as CellState}
 use Rattle.rules.specs.declared.mpsc.Call.{Call as ChannelCall}
 use Rattle.rules.specs.declared.mpsc.Call.TheVariants as mpsc-call
 use Rattle.rules.specs.declared.mpsc.State.{State as ChannelState}
-use Rattle.rules.specs.declared.condvar.Wait.TheVariants.{On}
 use Rattle.rules.specs.declared.table.Call.{Call}
 use Rattle.rules.specs.declared.table.Call.TheVariants.{Mutex, RwLock, Condvar, Notify, Channel, Arc, Cell}
 use Rattle.rules.specs.declared.notify.State.{State as NotifyState}
@@ -32,7 +31,7 @@ use Rattle.rules.specs.Object.{new_entry, put_notify}
 use Rattle.rules.specs.Arc as arc
 use Rattle.rules.specs.Cell as cell
 use Rattle.rules.specs.Mpsc as mpsc
-use Rattle.rules.specs.Table.{accepted, read_table}
+use Rattle.rules.specs.Table.{read_table}
 use Rattle.rules.proofs.TableLaws.{by_test}
 use Rattle.rules.specs.Effect.{asks, wait_of, set_last_access, doing}
 use Rattle.rules.specs.Turn.{entry_in}
@@ -44,35 +43,35 @@ use Rattle.theorems.proofs.Counting.{counts, count_most, count_below}
 use Rattle.theorems.specs.Counts.{arc_up, arc_down, channel_up, channel_down, cell_up, cell_down, none, by_kind, incs, decs, sends, receives, read_starts, read_ends, arc_count, messages, readers}
 
 -- what fails does not go well
-fails_not : {A : Type 0} (e : Ending) → is_fine e ≡ false → e ≡ ending.Fine → A
+fails_not : {A : Type 0} (e : Ending) → is_fine e ≡ false → e ≡ Ok tt → A
 fails_not e f g = absurd (false≢true (sym f ∙ ap is_fine g))
 
 -- an effect of a kind that goes well: the count n and what the operation adds make the count then and what it takes
 abbrev Fair : {S : Type 0} → (S → ℕ) → ℕ → ℕ → ℕ → Does S → Type 0
-Fair N n up down d = d.ending ≡ ending.Fine → N d.state + down ≡ n + up
+Fair N n up down d = d.ending ≡ Ok tt → N d.state + down ≡ n + up
 
 -- an Arc's operations
 arc_fair : (c : ArcCall) (by : Clock) (s : ArcState) → s.ref_cnt < 65535 → Fair (λ x. x.ref_cnt) s.ref_cnt (arc_up c) (arc_down c) (arc.doing c by s)
 unfolding arc.doing
 arc_fair arc-call.RefInc by s l = λ f. omega (arith, l)
 arc_fair arc-call.RefDec by s l =
-    by_test (Fair (λ x. x.ref_cnt) s.ref_cnt 0 1) (eqb s.ref_cnt 0) (λ z f. fails_not ending.Misuse refl f) (λ z f. omega (arith, eqb-false s.ref_cnt 0 z))
+    by_test (Fair (λ x. x.ref_cnt) s.ref_cnt 0 1) (eqb s.ref_cnt 0) (λ z f. fails_not (Err failure.Misuse) refl f) (λ z f. omega (arith, eqb-false s.ref_cnt 0 z))
 arc_fair arc-call.GetMut by s l = by_test (Fair (λ x. x.ref_cnt) s.ref_cnt 0 0) (eqb s.ref_cnt 0) (λ z f. refl) (λ z f. refl)
 arc_fair arc-call.StrongCount by s l = by_test (Fair (λ x. x.ref_cnt) s.ref_cnt 0 0) (eqb s.ref_cnt 0) (λ z f. refl) (λ z f. refl)
 
 -- a channel's
 channel_fair : (c : ChannelCall) (o : ObjectId) (by : Clock) (s : ChannelState) → Fair (λ x. x.msg_cnt) s.msg_cnt (channel_up c) (channel_down c) (mpsc.doing c o by s)
 unfolding mpsc.doing
-channel_fair mpsc-call.Send o by s = by_test (Fair (λ x. x.msg_cnt) s.msg_cnt 1 0) (ltb s.msg_cnt max_messages) (λ z f. omega arith) (λ z f. fails_not ending.NoRoom refl f)
+channel_fair mpsc-call.Send o by s = by_test (Fair (λ x. x.msg_cnt) s.msg_cnt 1 0) (ltb s.msg_cnt max_messages) (λ z f. omega arith) (λ z f. fails_not (Err failure.NoRoom) refl f)
 channel_fair mpsc-call.Recv o by s =
-    by_test (Fair (λ x. x.msg_cnt) s.msg_cnt 0 1) (mpsc.is_empty s) (λ z f. fails_not ending.Misuse refl f) (λ z f. omega (arith, eqb-false s.msg_cnt 0 z))
+    by_test (Fair (λ x. x.msg_cnt) s.msg_cnt 0 1) (mpsc.is_empty s) (λ z f. fails_not (Err failure.Misuse) refl f) (λ z f. omega (arith, eqb-false s.msg_cnt 0 z))
 
 -- a cell's
 accessed_fair : (misuse : Bool) (track : Ending) (s next : CellState) (xs : List Touch) (up down : ℕ) → (misuse ≡ false → next.is_reading + down ≡ s.is_reading + up)
     → Fair (λ x. x.is_reading) s.is_reading up down (cell.accessing misuse track s next xs)
 unfolding cell.accessing
 accessed_fair misuse track s next xs up down h =
-    by_test (Fair (λ x. x.is_reading) s.is_reading up down) misuse (λ m f. fails_not ending.Misuse refl f)
+    by_test (Fair (λ x. x.is_reading) s.is_reading up down) misuse (λ m f. fails_not (Err failure.Misuse) refl f)
     (λ m. by_test (Fair (λ x. x.is_reading) s.is_reading up down) (is_fine track) (λ z f. h m) (λ z f. fails_not track z f))
 
 -- an end of a read that is no misuse finds a reader
@@ -151,7 +150,7 @@ module _ (f : ArcCall → ℕ) (g : ChannelCall → ℕ) (h : CellCall → ℕ) 
   small p q r (Cell c) = r c
 
   -- an operation that counts neither waits nor asks
-  waits-none : (c : Call) (m : ObjectId) → wait_of c ≡ On m → by_kind f g h c ≡ 0
+  waits-none : (c : Call) (m : ObjectId) → wait_of c ≡ Some m → by_kind f g h c ≡ 0
   waits-none (Mutex c) m e = refl
   waits-none (RwLock c) m e = refl
   waits-none (Condvar c) m e = refl
@@ -208,7 +207,7 @@ cell_counted =
     (λ c x e. (records_same c x e).2) (λ e s. refl)
 
 -- in every world that the sheet of an accepted table shows
-module _ (bs list : List ℕ) (table : Table) (w : World) (a : read_table bs ≡ accepted table) (e : Shown table list w) where
+module _ (bs list : List ℕ) (table : Table) (w : World) (a : read_table bs ≡ Ok table) (e : Shown table list w) where
   -- "Sent less received equals the count."
   pub sent_received : (o : ObjectId) → (entry_in w o).channel.msg_cnt + done_of table receives o.0 w.threads ≡ done_of table sends o.0 w.threads
   sent_received o = omega (arith, (counts messages 0 sends receives channel_counted bs list table w a e).law o.0)
@@ -229,7 +228,7 @@ module _ (bs list : List ℕ) (table : Table) (w : World) (a : read_table bs ≡
   reading_most o = count_most readers 0 read_starts read_ends cell_counted bs list table w a e o
 
 -- before each effect of a further decision
-module _ (bs list : List ℕ) (table : Table) (w : World) (a : read_table bs ≡ accepted table) (e : Reached table list w) where
+module _ (bs list : List ℕ) (table : Table) (w : World) (a : read_table bs ≡ Ok table) (e : Reached table list w) where
   pub arc_below : (d : ℕ) → Each (λ t c x ts. x.arc.ref_cnt < 193) table w d
   arc_below d = count_below arc_count 1 incs decs arc_counted bs list table w a e d
 

@@ -1,18 +1,16 @@
 -- A decision, an effect at a time: what holds before each effect, and what the decision leaves. The words are in specs/Each.antt.
 use Rattle.std.proofs.Math.Path.{◌≡◌, refl, ap}
 use Rattle.std.proofs.Common.{sym, subst, arith}
-use Rattle.std.specs.Prelude.{ℕ, eqb, drop}
+use Rattle.std.specs.Prelude.{ℕ, eqb, drop, None, Option, Some, Err, Ok}
 use mathlib.Core.List.{List, [], ◌∷◌}
 use Rattle.std.proofs.Math.ListN.{get_or}
 use Rattle.clocks.specs.Clock.{risen}
 use Rattle.clocks.specs.declared.thread.ThreadId.{ThreadId}
 use Rattle.rules.specs.declared.object.ObjectId.{ObjectId}
 use Rattle.rules.specs.declared.object.Entry.{Entry}
-use Rattle.rules.specs.declared.object.Ending.{Ending}
-use Rattle.rules.specs.declared.object.Ending.TheVariants as ending
+use Rattle.rules.specs.Ground.{Ending}
+use Rattle.rules.specs.declared.object.Failure.TheVariants as failure
 use Rattle.rules.specs.declared.mutex.Call.TheVariants as mutex-call
-use Rattle.rules.specs.declared.condvar.Wait.{Wait}
-use Rattle.rules.specs.declared.condvar.Wait.TheVariants.{On, Nowhere}
 use Rattle.rules.specs.declared.thread.Phase.{Phase}
 use Rattle.rules.specs.declared.thread.Phase.TheVariants.{Nothing, Announced, Parked, Retaking}
 use Rattle.rules.specs.declared.thread.Thread.{Thread}
@@ -21,8 +19,6 @@ use Rattle.rules.specs.declared.table.Call.TheVariants.{Mutex}
 use Rattle.rules.specs.declared.table.Op.{Op}
 use Rattle.rules.specs.declared.table.Table.{Table}
 use Rattle.rules.specs.declared.answer.Spot.{Spot}
-use Rattle.rules.specs.declared.world.Asked.{Asked}
-use Rattle.rules.specs.declared.world.Asked.TheVariants as asked
 use Rattle.rules.specs.declared.world.World.{World}
 use Rattle.rules.specs.declared.world.Decided.{Decided}
 use Rattle.rules.specs.Ground.{is_runnable}
@@ -61,7 +57,7 @@ begins_both table w t Q R I K J L b c =
 pub begins_sees : (table : Table) (w : World) (t : ThreadId) (Q R : ThreadId → Call → Entry → List Thread → Type 0) (I : List Op → World → Type 0) (J : World → Type 0) → Begins table w t Q I J
     → ((ops : List Op) (v : World) (op : Op) → I (op ∷ ops) v → R t op.call (entry_in v op.object) v.threads)
     → ((op : Op) → Takes (thread_in w t).phase (ops_left table w t) op → R t op.call (recorded t op w) (dependent t op w))
-    → ((op : Op) (m : ObjectId) → Takes (thread_in w t).phase (ops_left table w t) op → wait_of op.call ≡ On m → R t (Mutex mutex-call.ReleaseLock) (entry_in (in_effect t op w) m) (in_effect t op w).threads)
+    → ((op : Op) (m : ObjectId) → Takes (thread_in w t).phase (ops_left table w t) op → wait_of op.call ≡ Some m → R t (Mutex mutex-call.ReleaseLock) (entry_in (in_effect t op w) m) (in_effect t op w).threads)
     → Begins table w t R I J
 begins_sees table w t Q R I J b sees effects releases =
     record {
@@ -82,12 +78,12 @@ begins_sees table w t Q R I J b sees effects releases =
     }
 
 -- an ending: a failing step shows the world before it
-ending_passes : (J : World → Type 0) (e : Ending) (s : Spot) (shown : World) (next : Decided) → J shown → (e ≡ ending.Fine → J next.world) → J (ending_of e s shown next).world
+ending_passes : (J : World → Type 0) (e : Ending) (s : Spot) (shown : World) (next : Decided) → J shown → (e ≡ Ok tt → J next.world) → J (ending_of e s shown next).world
 unfolding ending_of
-ending_passes J ending.Fine s shown next j k = k refl
-ending_passes J ending.Misuse s shown next j k = j
-ending_passes J ending.NoRoom s shown next j k = j
-ending_passes J (ending.Race o) s shown next j k = j
+ending_passes J (Ok ok) s shown next j k = k refl
+ending_passes J (Err failure.Misuse) s shown next j k = j
+ending_passes J (Err failure.NoRoom) s shown next j k = j
+ending_passes J (Err (failure.Race o)) s shown next j k = j
 
 module _ (t : ThreadId) (Q : ThreadId → Call → Entry → List Thread → Type 0) (I : List Op → World → Type 0) (J : World → Type 0) (h : Passes t Q I J) where
   -- through operations that need no announcement
@@ -107,11 +103,11 @@ module _ (t : ThreadId) (Q : ThreadId → Call → Entry → List Thread → Typ
 module _ (table : Table) (w : World) (t : ThreadId) (Q : ThreadId → Call → Entry → List Thread → Type 0) (I : List Op → World → Type 0) (J : World → Type 0) (b : Begins table w t Q I J) where
   -- an announced operation and what follows its effect
   module _ (op first : Op) (ops : List Op) (takes : Takes (thread_in w t).phase (ops_left table w t) op) (left : ops_left table w t ≡ first ∷ ops) (before : J w)
-      (waits : (m : ObjectId) → wait_of op.call ≡ On m → Succeeds t op w → J (waiting t m (in_effect t op w))) where
-    then_passes : (m : Wait) → wait_of op.call ≡ m → Succeeds t op w → J (thereafter m t (operated t op w).answer ops (in_effect t op w)).world
+      (waits : (m : ObjectId) → wait_of op.call ≡ Some m → Succeeds t op w → J (waiting t m (in_effect t op w))) where
+    then_passes : (m : Option ObjectId) → wait_of op.call ≡ m → Succeeds t op w → J (thereafter m t (operated t op w).answer ops (in_effect t op w)).world
     unfolding thereafter
-    then_passes Nowhere e s = go_passes t Q I J b.passes ops _ (b.operates op first ops takes left e s)
-    then_passes (On m) e s = waits m e s
+    then_passes None e s = go_passes t Q I J b.passes ops _ (b.operates op first ops takes left e s)
+    then_passes (Some m) e s = waits m e s
 
     operation_passes : J (operation t op ops w).world
     unfolding operation
@@ -149,35 +145,35 @@ answers_both table w t J L a b = record { goes = λ op o. (a.goes op o, b.goes o
 
 module _ (table : Table) (n : Within table) (w : World) (g : Good table w) (Q : ThreadId → Call → Entry → List Thread → Type 0) (I : ThreadId → List Op → World → Type 0) (J : World → Type 0)
     (before : J w) (begins : (t : ThreadId) → Acts w t → Begins table w t Q (I t) J)
-    (answers : (t : ThreadId) → w.asked ≡ asked.Thread t → Ready table (asked.Thread t) w.threads → Answers table w t J) where
+    (answers : (t : ThreadId) → w.asked ≡ Some t → Ready table (Some t) w.threads → Answers table w t J) where
   -- what a decision leaves, the last one too
   pub decide_passes : (d : ℕ) → J (decide table w d).world
   unfolding decide decide_at begin question
   decide_passes d = go w.asked refl
     where
-      go : (a : Asked) → w.asked ≡ a → J (decide_at a table w d).world
-      go asked.Nobody e =
+      go : (a : Option ThreadId) → w.asked ≡ a → J (decide_at a table w d).world
+      go None e =
           let t : ThreadId = record { 0 = d } in
           by_test (λ (r : Decided). J r.world) (is_runnable (thread_in w t).state)
           (λ r.
           let l = runnable_within table w g n t r in
           turn_passes table w t Q (I t) J (begins t (record { within = l; runs = r; nobody = e })) before (thread_in w t).phase refl (ops_left table w t) refl (sound_here table w g n t l))
           (λ r. before)
-      go (asked.Thread t) e =
-          let a = answers t e (subst (λ (x : Asked). Ready table x w.threads) e g.ready) in
+      go (Some t) e =
+          let a = answers t e (subst (λ (x : Option ThreadId). Ready table x w.threads) e g.ready) in
           by_test (λ (r : Decided). J r.world) (eqb d 0) (λ z. a.goes _ refl) (λ z. by_test (λ (r : Decided). J r.world) (eqb d 1) (λ o. a.wakes _ refl) (λ o. before))
 
   -- what holds before each of its effects
   pub decide-each : (d : ℕ) → Each Q table w d
   decide-each d = go w.asked refl
     where
-      go : (a : Asked) → w.asked ≡ a → OnAsked Q a table w d
-      go asked.Nobody e =
+      go : (a : Option ThreadId) → w.asked ≡ a → OnAsked Q a table w d
+      go None e =
           λ r.
           let t : ThreadId = record { 0 = d } in
           let l = runnable_within table w g n t r in
           turn_each table w t Q (I t) J (begins t (record { within = l; runs = r; nobody = e })) (thread_in w t).phase refl (ops_left table w t) refl (sound_here table w g n t l)
-      go (asked.Thread t) e = tt
+      go (Some t) e = tt
 
 -- what follows from `Q` and `S` for the thread d holds before each effect too
 module _ (Q S R : ThreadId → Call → Entry → List Thread → Type 0) (d : ℕ)
@@ -202,6 +198,6 @@ module _ (Q S R : ThreadId → Call → Entry → List Thread → Type 0) (d : �
   pub each_both : (table : Table) (w : World) → Each Q table w d → Each S table w d → Each R table w d
   each_both table w h i = go w.asked h i
     where
-      go : (a : Asked) → OnAsked Q a table w d → OnAsked S a table w d → OnAsked R a table w d
-      go asked.Nobody h i = λ r. turn_both (thread_in w who).phase (ops_left table w who) w (h r) (i r)
-      go (asked.Thread t) h i = tt
+      go : (a : Option ThreadId) → OnAsked Q a table w d → OnAsked S a table w d → OnAsked R a table w d
+      go None h i = λ r. turn_both (thread_in w who).phase (ops_left table w who) w (h r) (i r)
+      go (Some t) h i = tt

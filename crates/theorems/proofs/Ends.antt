@@ -1,5 +1,5 @@
 -- No run of an accepted table meets a type's end: wherever a count rises, it rises by one. The words are in specs/Ends.antt.
-use Rattle.std.specs.Prelude.{◌≡◌, List, ℕ, ◌+◌, ◌<◌, get_or}
+use Rattle.std.specs.Prelude.{◌≡◌, List, ℕ, ◌+◌, ◌<◌, get_or, Ok}
 use Rattle.std.proofs.Common.{arith}
 use Rattle.clocks.specs.Clock.{risen}
 use Rattle.clocks.specs.declared.thread.ThreadId.{ThreadId}
@@ -10,7 +10,7 @@ use Rattle.rules.specs.declared.table.Table.{Table}
 use Rattle.rules.specs.declared.world.World.{World}
 use Rattle.rules.specs.Limits.{max_operations}
 use Rattle.rules.specs.Ground.{thread_at}
-use Rattle.rules.specs.Table.{accepted, read_table}
+use Rattle.rules.specs.Table.{read_table}
 use Rattle.theorems.proofs.Touches.{keeps_position}
 use Rattle.theorems.specs.Reached.{Shown, Reached}
 use Rattle.theorems.specs.Each.{Each}
@@ -34,7 +34,7 @@ abbrev Few : ThreadId → Call → Entry → List Thread → Type 0
 Few t c e ts = (e.arc.ref_cnt < 193) × (e.cell.is_reading < 192)
 
 -- every effect of a decision
-plain_effects : (bs list : List ℕ) (table : Table) (w : World) → read_table bs ≡ accepted table → Reached table list w → (d : ℕ) → Each Plain table w d
+plain_effects : (bs list : List ℕ) (table : Table) (w : World) → read_table bs ≡ Ok table → Reached table list w → (d : ℕ) → Each Plain table w d
 plain_effects bs list table w a e d =
     let few : Each Few table w d =
     each_both (λ t c x ts. x.arc.ref_cnt < 193) (λ t c x ts. x.cell.is_reading < 192) Few d (λ c x ts p q. (p, q)) table w (arc_below bs list table w a e d)
@@ -49,7 +49,7 @@ plain_effects bs list table w a e d =
     }) table w (counts_below bs list table w a e d) few
 
 -- every world that the sheet of an accepted table shows
-pub no_end : (bs list : List ℕ) (table : Table) (w : World) → read_table bs ≡ accepted table → Shown table list w → (d : ℕ) → NoEnd table list w d
+pub no_end : (bs list : List ℕ) (table : Table) (w : World) → read_table bs ≡ Ok table → Shown table list w → (d : ℕ) → NoEnd table list w d
 no_end bs list table w a e d =
     record {
       turn = turn_rises bs list table w a e;

@@ -1,5 +1,5 @@
 -- Each decision that wants another leaves a good world, with a smaller falling number. The words are in specs/Falling.antt.
-use Rattle.std.specs.Prelude.{◌≡◌, Bool, eqb, ltb, get_or, drop}
+use Rattle.std.specs.Prelude.{◌≡◌, Bool, eqb, ltb, get_or, drop, None, Option, Some, Err, Ok}
 use Rattle.std.proofs.Math.Path.{refl, ap, subst}
 use Rattle.std.proofs.Common.{sym, ◌∙◌, not-suc-le-zero, le_of_suc-le-suc, add-zero, ltb-true, ltb-false}
 use Rattle.std.proofs.Math.Bool.{true, false}
@@ -13,26 +13,20 @@ use Rattle.clocks.specs.Clock.{max_threads, risen}
 use Rattle.clocks.specs.declared.thread.ThreadId.{ThreadId}
 use Rattle.rules.specs.declared.object.ObjectId.{ObjectId}
 use Rattle.rules.specs.declared.object.Entry.{Entry}
-use Rattle.rules.specs.declared.object.Ending.{Ending}
-use Rattle.rules.specs.declared.object.Ending.TheVariants as ending
+use Rattle.rules.specs.Ground.{Ending}
+use Rattle.rules.specs.declared.object.Failure.TheVariants as failure
 use Rattle.rules.specs.declared.object.Action.TheVariants as action
 use Rattle.rules.specs.declared.mutex.Call.TheVariants as mutex-call
-use Rattle.rules.specs.declared.condvar.Wait.{Wait}
-use Rattle.rules.specs.declared.condvar.Wait.TheVariants.{On, Nowhere}
 use Rattle.rules.specs.declared.thread.State.{State}
 use Rattle.rules.specs.declared.thread.State.TheVariants as state
 use Rattle.rules.specs.declared.thread.Phase.{Phase}
 use Rattle.rules.specs.declared.thread.Phase.TheVariants as phase
 use Rattle.rules.specs.declared.thread.Thread.{Thread}
-use Rattle.rules.specs.declared.thread.Answered.{Answered}
-use Rattle.rules.specs.declared.thread.Answered.TheVariants.{Kept}
 use Rattle.rules.specs.declared.table.Call.{Call}
 use Rattle.rules.specs.declared.table.Call.TheVariants.{Mutex, RwLock, Condvar, Notify, Channel, Arc, Cell}
 use Rattle.rules.specs.declared.table.Op.{Op}
 use Rattle.rules.specs.declared.table.Table.{Table}
 use Rattle.rules.specs.declared.answer.Spot.{Spot}
-use Rattle.rules.specs.declared.world.Asked.{Asked}
-use Rattle.rules.specs.declared.world.Asked.TheVariants as asked
 use Rattle.rules.specs.declared.world.Step.TheVariants.{Wants}
 use Rattle.rules.specs.declared.world.World.{World}
 use Rattle.rules.specs.declared.world.Decided.{Decided}
@@ -56,16 +50,16 @@ pub left_sum : (table : Table) (w : World) → left table w ≡ total table 0 (s
 unfolding left
 left_sum table w = ap (λ (n : ℕ). n - asked_of w.asked) (left-total table w)
 
-pub wait_small : (m : Wait) → waits_for m ≤ 1
+pub wait_small : (m : Option ObjectId) → waits_for m ≤ 1
 unfolding waits_for
-wait_small Nowhere = omega arith
-wait_small (On m) = omega arith
+wait_small None = omega arith
+wait_small (Some m) = omega arith
 
-pub asked_one : (t : ThreadId) → asked_of (asked.Thread t) ≡ 1
+pub asked_one : (t : ThreadId) → asked_of (Some t) ≡ 1
 unfolding asked_of
 asked_one t = refl
 
-pub asked_none : asked_of asked.Nobody ≡ 0
+pub asked_none : asked_of None ≡ 0
 unfolding asked_of
 asked_none = refl
 
@@ -80,7 +74,7 @@ asks-wait (Channel c) e h = refl
 asks-wait (Arc c) e h = refl
 asks-wait (Cell c) e h = refl
 
-acquires : waits_for Nowhere ≡ 0 → ⊥
+acquires : waits_for None ≡ 0 → ⊥
 unfolding waits_for
 acquires z = omega (arith, z)
 
@@ -90,20 +84,20 @@ going p = record { position = p; phase = phase.Nothing; ended = false }
 
 module _ (table : Table) (t : ThreadId) (within : t.0 < max_threads) (R B : ℕ) where
   -- after the turn
-  after_then : (s : Shape) (w : World) → w.asked ≡ asked.Nobody → Stage table t R s w.threads → R + left_at table t.0 s < B → After table B (after_turn w)
+  after_then : (s : Shape) (w : World) → w.asked ≡ None → Stage table t R s w.threads → R + left_at table t.0 s < B → After table B (after_turn w)
   unfolding after_step
   after_then s w nobody g less =
       split (all_ended w.threads) (λ e. rw (after_step, e) tt)
       (λ e. split (any_runnable w.threads) (λ r. rw (after_step, e, r) (good r, small)) (λ r. rw (after_step, e, r) tt))
     where
       good : any_runnable w.threads ≡ true → Good table w
-      good r = record { long = g.long; tidy = g.tidy; sounds = g.sounds; ready = subst (λ (a : Asked). Ready table a w.threads) (sym nobody) r }
+      good r = record { long = g.long; tidy = g.tidy; sounds = g.sounds; ready = subst (λ (a : Option ThreadId). Ready table a w.threads) (sym nobody) r }
 
       small : left table w < B
       small = let e = left_sum table w in let z : total table 0 (shapes w.threads) - asked_of w.asked ≤ total table 0 (shapes w.threads) = omega arith in omega (arith, e, z, less, g.rest)
 
   -- the thread ends
-  ended_then : (p : ℕ) (w : World) → w.asked ≡ asked.Nobody → Stage table t R (going p) w.threads → 0 < B - R → After table B (after_turn (with_threads w (ended t w.threads)))
+  ended_then : (p : ℕ) (w : World) → w.asked ≡ None → Stage table t R (going p) w.threads → 0 < B - R → After table B (after_turn (with_threads w (ended t w.threads)))
   unfolding ended
   ended_then p w nobody g room =
       let z : Shape = record { position = p; phase = phase.Nothing; ended = true } in
@@ -116,7 +110,7 @@ module _ (table : Table) (t : ThreadId) (within : t.0 < max_threads) (R B : ℕ)
   announced-shape p f q true x e = ap (λ (s : Shape). record { position = s.position; phase = q; ended = false }) e
   announced-shape p f q false x e = ap (λ (s : Shape). record { position = s.position; phase = q; ended = s.ended }) e
 
-  announce_then : (p : ℕ) (op : Op) (e : Entry) (w : World) → w.asked ≡ asked.Nobody → Stage table t R (going p) w.threads → (ops : List Op) → drop p (ops_of table t.0) ≡ op ∷ ops
+  announce_then : (p : ℕ) (op : Op) (e : Entry) (w : World) → w.asked ≡ None → Stage table t R (going p) w.threads → (ops : List Op) → drop p (ops_of table t.0) ≡ op ∷ ops
       → R + 3 * suc (length ops) - waits_for (wait_of op.call) < B → After table B (after_turn (with_threads w (announce_op t op e w.threads)))
   unfolding announce_op left_in
   announce_then p op e w nobody g ops q less =
@@ -130,14 +124,14 @@ module _ (table : Table) (t : ThreadId) (within : t.0 < max_threads) (R B : ℕ)
   -- an ending: a failing step is a verdict
   ending_then : (e : Ending) (r : Decided) (s : Spot) (shown : World) → After table B r → After table B (ending_of e s shown r)
   unfolding ending_of
-  ending_then ending.Fine r s shown h = h
-  ending_then ending.Misuse r s shown h = tt
-  ending_then ending.NoRoom r s shown h = tt
-  ending_then (ending.Race x) r s shown h = tt
+  ending_then (Ok ok) r s shown h = h
+  ending_then (Err failure.Misuse) r s shown h = tt
+  ending_then (Err failure.NoRoom) r s shown h = tt
+  ending_then (Err (failure.Race x)) r s shown h = tt
 
   module _ (limits : Within table) where
     -- one operation is done
-    advanced : (p : ℕ) (n : Answered) (ts : List Thread) → Stage table t R (going p) ts → Stage table t R (going (risen 255 p)) (advance t n ts)
+    advanced : (p : ℕ) (n : Option ℕ) (ts : List Thread) → Stage table t R (going p) ts → Stage table t R (going (risen 255 p)) (advance t n ts)
     unfolding advance
     advanced p n ts g =
         answering_by (λ (x : Thread). Stage table t R (going (risen 255 p)) (put_thread ts t (with_position x (risen 255 (thread_at ts t).position)))) n (thread_at ts t)
@@ -152,13 +146,13 @@ module _ (table : Table) (t : ThreadId) (within : t.0 < max_threads) (R B : ℕ)
     later-ops p op ops q = step_on table limits t.0 p ∙ ap (λ (os : List Op). drop 1 os) q
 
     asked_then : (p : ℕ) (op : Op) (ops : List Op) (w : World) → Stage table t R (going p) w.threads → drop p (ops_of table t.0) ≡ op ∷ ops → waits_for (wait_of op.call) ≡ 1
-        → R + (3 * suc (length ops) + 1) ≤ B → Then table B Wants (with_asked w (asked.Thread t))
+        → R + (3 * suc (length ops) + 1) ≤ B → Then table B Wants (with_asked w (Some t))
     unfolding left_in
     asked_then p op ops w g q f room =
         let here : ops_at table t.0 (shape (thread_at w.threads t)) ≡ op ∷ ops = ap (ops_at table t.0) g.here ∙ q in
         let n : left_at table t.0 (going p) ≡ 3 * suc (length ops) + 1 = ap (λ (os : List Op). 3 * length os + 1) q in
-        let e = left_sum table (with_asked w (asked.Thread t)) in
-        let one : asked_of (asked.Thread t) ≡ 1 = asked_one t in (
+        let e = left_sum table (with_asked w (Some t)) in
+        let one : asked_of (Some t) ≡ 1 = asked_one t in (
           record {
             long = g.long;
             tidy = g.tidy;
@@ -173,7 +167,7 @@ module _ (table : Table) (t : ThreadId) (within : t.0 < max_threads) (R B : ℕ)
           omega (arith, e, one, n, g.rest, room),
         )
 
-    go_then : (ops : List Op) (p : ℕ) (w : World) → w.asked ≡ asked.Nobody → Stage table t R (going p) w.threads → drop p (ops_of table t.0) ≡ ops
+    go_then : (ops : List Op) (p : ℕ) (w : World) → w.asked ≡ None → Stage table t R (going p) w.threads → drop p (ops_of table t.0) ≡ ops
         → R + (3 * length ops + 1) ≤ B → After table B (go_on t ops w)
     unfolding go_on
     go_then [] p w nobody g q room = ended_then p w nobody g (omega (arith, room))
@@ -189,7 +183,7 @@ module _ (table : Table) (t : ThreadId) (within : t.0 < max_threads) (R B : ℕ)
         (λ a. announce_then p op e w nobody g ops q (omega (arith, room))))
 
     -- the retaking of a mutex is announced, by a wait at once or by a parked thread that was woken
-    retaken_then : (p : ℕ) (f : Phase) (m : ObjectId) (e : Entry) (w : World) (ts : List Thread) → w.asked ≡ asked.Nobody
+    retaken_then : (p : ℕ) (f : Phase) (m : ObjectId) (e : Entry) (w : World) (ts : List Thread) → w.asked ≡ None
         → Stage table t R (record { position = p; phase = f; ended = false }) ts → (op : Op) (later : List Op) → drop p (ops_of table t.0) ≡ op ∷ later
         → R + (3 * suc (length later) - 2) < B → After table B (after_turn (with_threads w (retake t m e ts)))
     unfolding retake left_in
@@ -201,7 +195,7 @@ module _ (table : Table) (t : ThreadId) (within : t.0 < max_threads) (R B : ℕ)
         (omega (arith, n, less))
 
     -- a wait, once it is queued: parked, or retaking its mutex at once
-    park_then : (p : ℕ) (m : ObjectId) (e : Entry) (w : World) (ts : List Thread) → w.asked ≡ asked.Nobody → Stage table t R (going p) ts → (op : Op) (later : List Op)
+    park_then : (p : ℕ) (m : ObjectId) (e : Entry) (w : World) (ts : List Thread) → w.asked ≡ None → Stage table t R (going p) ts → (op : Op) (later : List Op)
         → drop p (ops_of table t.0) ≡ op ∷ later → R + 3 * suc (length later) ≤ B → After table B (after_turn (with_threads w (park t m e ts)))
     unfolding park left_in
     park_then p m e w ts nobody g op later q room =
@@ -221,7 +215,7 @@ module _ (table : Table) (t : ThreadId) (within : t.0 < max_threads) (R B : ℕ)
         retaken : After table B (after_turn (with_threads w (retake t m e (put_thread ts t (set_runnable (thread_at ts t))))))
         retaken = retaken_then p phase.Nothing m e w _ nobody ready op later q (omega (arith, room))
 
-    wait_then : (p : ℕ) (m : ObjectId) (w : World) → w.asked ≡ asked.Nobody → Stage table t R (going p) w.threads → (op : Op) (later : List Op)
+    wait_then : (p : ℕ) (m : ObjectId) (w : World) → w.asked ≡ None → Stage table t R (going p) w.threads → (op : Op) (later : List Op)
         → drop p (ops_of table t.0) ≡ op ∷ later → R + 3 * suc (length later) ≤ B → After table B (after_turn (settled w m (wait t m (entry_in w m) w.threads)))
     unfolding wait
     wait_then p m w nobody g op later q room =
@@ -229,15 +223,15 @@ module _ (table : Table) (t : ThreadId) (within : t.0 < max_threads) (R B : ℕ)
         let k = stage_keeps table t R (going p) w.threads g within r.threads (effect_keeps t m (entry_in w m) w.threads g.tidy (Mutex mutex-call.ReleaseLock)) in
         park_then p m r.entry (settled w m (wait t m (entry_in w m) w.threads)) r.threads nobody k op later q room
 
-    thereafter_then : (m : Wait) (n : Answered) (p : ℕ) (w : World) → w.asked ≡ asked.Nobody → Stage table t R (going p) w.threads → (op : Op) (later : List Op)
+    thereafter_then : (m : Option ObjectId) (n : Option ℕ) (p : ℕ) (w : World) → w.asked ≡ None → Stage table t R (going p) w.threads → (op : Op) (later : List Op)
         → drop p (ops_of table t.0) ≡ op ∷ later → R + (3 * length later + 1) ≤ B → (waits_for m ≡ 0 → R + 3 * suc (length later) ≤ B) → After table B (thereafter m t n later w)
     unfolding thereafter waits_for
-    thereafter_then Nowhere n p w nobody g op later q room wide =
+    thereafter_then None n p w nobody g op later q room wide =
         go_then later (risen 255 p) (with_threads w (advance t n w.threads)) nobody (advanced p n w.threads g) (later-ops p op later q) room
-    thereafter_then (On m) n p w nobody g op later q room wide = wait_then p m w nobody g op later q (wide refl)
+    thereafter_then (Some m) n p w nobody g op later q room wide = wait_then p m w nobody g op later q (wide refl)
 
     -- an announced operation, or the retaking of a mutex
-    operation_then : (op : Op) (p : ℕ) (f : Phase) (w : World) → w.asked ≡ asked.Nobody → Stage table t R (record { position = p; phase = f; ended = false }) w.threads
+    operation_then : (op : Op) (p : ℕ) (f : Phase) (w : World) → w.asked ≡ None → Stage table t R (record { position = p; phase = f; ended = false }) w.threads
         → (head : Op) (later : List Op) → drop p (ops_of table t.0) ≡ head ∷ later → R + (3 * length later + 1) ≤ B → (waits_for (wait_of op.call) ≡ 0 → R + 3 * suc (length later) ≤ B)
         → After table B (operation t op later w)
     unfolding operation operate
@@ -251,7 +245,7 @@ module _ (table : Table) (t : ThreadId) (within : t.0 < max_threads) (R B : ℕ)
         ending_then r.ending _ _ w (thereafter_then (wait_of op.call) r.answer p _ nobody b head later q room wide)
 
     -- the turn of a thread, by its phase
-    turn_then : (f : Phase) (p : ℕ) (w : World) → w.asked ≡ asked.Nobody → Stage table t R (record { position = p; phase = f; ended = false }) w.threads
+    turn_then : (f : Phase) (p : ℕ) (w : World) → w.asked ≡ None → Stage table t R (record { position = p; phase = f; ended = false }) w.threads
         → B ≡ R + left_in f (drop p (ops_of table t.0)) → (ops : List Op) → drop p (ops_of table t.0) ≡ ops → SoundIn f ops → After table B (turn_of f t ops w)
     unfolding turn_of left_in
     turn_then phase.Nothing p w nobody g b ops q sound =
@@ -322,7 +316,7 @@ module _ (table : Table) (w : World) (g : Good table w) (limits : Within table) 
       let out : length w.threads ≤ t.0 = omega (arith, g.long, ltb-false t.0 max_threads l) in
       absurd (false≢true (sym (ap (λ (x : Thread). is_runnable x.state) (get_or-eq_default w.threads absent out)) ∙ r)))
 
-  begin_then : (t : ThreadId) → w.asked ≡ asked.Nobody → After table (left table w) (begin table w t)
+  begin_then : (t : ThreadId) → w.asked ≡ None → After table (left table w) (begin table w t)
   unfolding begin
   begin_then t nobody =
       by_test (After table (left table w)) (is_runnable (thread_in w t).state) (λ r. go (runs (thread_in w t).state r) (runnable_within t r)) (λ r. tt)
@@ -334,31 +328,31 @@ module _ (table : Table) (w : World) (g : Good table w) (limits : Within table) 
           let s : shape (thread_in w t) ≡ record { position = p; phase = f; ended = false } = (λ i. record { position = p; phase = f; ended = e i }) in
           let a : Stage table t (others t) (record { position = p; phase = f; ended = false }) w.threads =
           subst (λ (x : Shape). Stage table t (others t) x w.threads) s (staged t within) in
-          let b : left table w ≡ total table 0 (shapes w.threads) = left_sum table w ∙ ap (λ (x : Asked). total table 0 (shapes w.threads) - asked_of x) nobody ∙ none in
+          let b : left table w ≡ total table 0 (shapes w.threads) = left_sum table w ∙ ap (λ (x : Option ThreadId). total table 0 (shapes w.threads) - asked_of x) nobody ∙ none in
           turn_then table t within (others t) (left table w) limits f p w nobody a (b ∙ a.rest) (ops_left table w t) refl (sound_here t within)
         where
-          none : total table 0 (shapes w.threads) - asked_of asked.Nobody ≡ total table 0 (shapes w.threads)
+          none : total table 0 (shapes w.threads) - asked_of None ≡ total table 0 (shapes w.threads)
           none = ap (λ (n : ℕ). total table 0 (shapes w.threads) - n) asked_none ∙ omega arith
 
-  question_then : (t : ThreadId) (d : ℕ) → w.asked ≡ asked.Thread t → After table (left table w) (question t (get_or (ops_left table w t) 0 no_op) d w)
+  question_then : (t : ThreadId) (d : ℕ) → w.asked ≡ Some t → After table (left table w) (question t (get_or (ops_left table w t) 0 no_op) d w)
   unfolding question spurious
   question_then t d who =
       by_test (After table (left table w)) (eqb d 0) (λ z. answered (ops_left table w t) refl) (λ z. by_test (After table (left table w)) (eqb d 1) (λ o. woken (ops_left table w t) refl) (λ o. tt))
     where
-      r : Ready table (asked.Thread t) w.threads
-      r = subst (λ (x : Asked). Ready table x w.threads) who g.ready
+      r : Ready table (Some t) w.threads
+      r = subst (λ (x : Option ThreadId). Ready table x w.threads) who g.ready
 
       p : ℕ
       p = (thread_in w t).position
 
       v : World
-      v = with_asked w asked.Nobody
+      v = with_asked w None
 
       a : Stage table t (others t) (going p) w.threads
       a = subst (λ (x : Shape). Stage table t (others t) x w.threads) r.1 (staged t r.0)
 
       b : left table w ≡ total table 0 (shapes w.threads) - 1
-      b = left_sum table w ∙ ap (λ (x : Asked). total table 0 (shapes w.threads) - asked_of x) who ∙ ap (λ (n : ℕ). total table 0 (shapes w.threads) - n) (asked_one t)
+      b = left_sum table w ∙ ap (λ (x : Option ThreadId). total table 0 (shapes w.threads) - asked_of x) who ∙ ap (λ (n : ℕ). total table 0 (shapes w.threads) - n) (asked_one t)
 
       answered : (ops : List Op) → ops_left table w t ≡ ops → After table (left table w) (after_turn (with_threads v (announce_op t (get_or (ops_left table w t) 0 no_op) (entry_in w (get_or (ops_left table w t) 0 no_op).object) w.threads)))
       answered [] q = absurd (omega (arith, r.2, ap (λ (os : List Op). length os) q))
@@ -376,7 +370,7 @@ module _ (table : Table) (w : World) (g : Good table w) (limits : Within table) 
           let m : left_at table t.0 (going (risen 255 p)) ≡ 3 * length later + 1 = going-left table t (risen 255 p) later (later-ops table t r.0 (others t) (left table w) limits p op later q) in
           let x : Stage table t (others t) (going p) (put_thread w.threads t (set_runnable (thread_in w t))) =
           stage_put table t (others t) (going p) w.threads a r.0 _ (going p) (ap (λ (s : Shape). record { position = s.position; phase = s.phase; ended = false }) r.1) (λ f. absurd (false≢true f)) tt in
-          let y = advanced table t r.0 (others t) (left table w) limits p Kept _ x in
+          let y = advanced table t r.0 (others t) (left table w) limits p None _ x in
           after_then table t r.0 (others t) (left table w) (going (risen 255 p)) _ refl y (omega (arith, n, m, b, a.rest))
 
   -- one decision
@@ -384,6 +378,6 @@ module _ (table : Table) (w : World) (g : Good table w) (limits : Within table) 
   unfolding decide decide_at
   decide_then d = go w.asked refl
     where
-      go : (a : Asked) → w.asked ≡ a → After table (left table w) (decide_at a table w d)
-      go asked.Nobody e = begin_then (record { 0 = d }) e
-      go (asked.Thread t) e = question_then t d e
+      go : (a : Option ThreadId) → w.asked ≡ a → After table (left table w) (decide_at a table w d)
+      go None e = begin_then (record { 0 = d }) e
+      go (Some t) e = question_then t d e

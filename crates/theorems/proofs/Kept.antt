@@ -1,13 +1,13 @@
 -- What an effect does to clocks: every clock of the object and of the threads afterwards is a join of clocks before, or a thread's own count has
 -- risen at the start of an access to a cell. And an effect keeps every thread's position and phase. The words are in specs/Kept.antt.
-use Rattle.std.specs.Prelude.{◌≡◌, refl, Bool, true, false, List, [], ◌∷◌, map, ℕ, eqb, ltb, drop, take}
+use Rattle.std.specs.Prelude.{◌≡◌, refl, Bool, true, false, List, [], ◌∷◌, map, ℕ, eqb, ltb, drop, take, None, Option, Some}
 use Rattle.clocks.specs.Clock.{max_threads, zero_clock, join_of, inc_of}
 use Rattle.clocks.specs.declared.clock.Clock.{Clock}
 use Rattle.clocks.specs.declared.thread.ThreadId.{ThreadId}
 use Rattle.rules.specs.declared.access.Access.{Access}
 use Rattle.rules.specs.declared.object.ObjectId.{ObjectId}
 use Rattle.rules.specs.declared.object.Entry.{Entry}
-use Rattle.rules.specs.declared.object.Ending.{Ending}
+use Rattle.rules.specs.Ground.{Ending}
 use Rattle.rules.specs.declared.mutex.State.{State as MutexState}
 use Rattle.rules.specs.declared.mutex.Call.{Call as MutexCall}
 use Rattle.rules.specs.declared.mutex.Call.TheVariants as mutex-call
@@ -33,7 +33,6 @@ use Rattle.rules.specs.declared.arc.RefModify.TheVariants as modify
 use Rattle.rules.specs.declared.cell.State.{State as CellState}
 use Rattle.rules.specs.declared.cell.Call.{Call as CellCall}
 use Rattle.rules.specs.declared.cell.Call.TheVariants as cell-call
-use Rattle.rules.specs.declared.thread.Answered.TheVariants.{Kept}
 use Rattle.rules.specs.declared.thread.Phase.{Phase}
 use Rattle.rules.specs.declared.thread.Phase.TheVariants.{Nothing}
 use Rattle.rules.specs.declared.thread.Thread.{Thread}
@@ -131,10 +130,10 @@ module _ (C D : Clock → Type 0) (none : C zero_clock) (never : D zero_clock) w
       }
 
   -- the last modification of an Arc
-  modified : (m : RefModify) (e : Entry) → Object C D e → D (arc.last_modification m e.arc).version
-  modified modify.Nothing e h = never
-  modified modify.RefInc e h = h.arc.1
-  modified modify.RefDec e h = h.arc.2
+  modified : (m : Option RefModify) (e : Entry) → Object C D e → D (arc.last_modification m e.arc).version
+  modified None e h = never
+  modified (Some modify.RefInc) e h = h.arc.1
+  modified (Some modify.RefDec) e h = h.arc.2
 
   -- the last access that an operation depends on
   pub last_version : (c : Call) (e : Entry) → Object C D e → D (last_dependent_access c e).version
@@ -171,14 +170,14 @@ one_bears C D join M =
     record { join = join; clock = λ k x h. h.0; clocked = λ k x c p h. (p, h.1, h.2); unparked = λ k x h. h; stands = λ k x o s on live h. h }
 
 -- a statement about a choice by a lock, with what the lock is, and without
-pub by-locked : {A : Type 0} (P : A → Type 0) (l : Locked) {x : A} {y : ℕ → A} {z : ThreadId → A} → (l ≡ locked.Free → P x) → ((m : ℕ) → l ≡ locked.Read m → P (y m))
-    → ((t : ThreadId) → l ≡ locked.Write t → P (z t)) → P (elim l [ locked.Free ↦ x | locked.Read m ↦ y m | locked.Write t ↦ z t ])
-by-locked P locked.Free p q r = p refl
-by-locked P (locked.Read m) p q r = q m refl
-by-locked P (locked.Write t) p q r = r t refl
+pub by-locked : {A : Type 0} (P : A → Type 0) (l : Option Locked) {x : A} {y : ℕ → A} {z : ThreadId → A} → (l ≡ None → P x) → ((m : ℕ) → l ≡ Some (locked.Read m) → P (y m))
+    → ((t : ThreadId) → l ≡ Some (locked.Write t) → P (z t)) → P (elim l [ None ↦ x | Some (locked.Read m) ↦ y m | Some (locked.Write t) ↦ z t ])
+by-locked P None p q r = p refl
+by-locked P (Some (locked.Read m)) p q r = q m refl
+by-locked P (Some (locked.Write t)) p q r = r t refl
 
-pub by_lock : {A : Type 0} (P : A → Type 0) (l : Locked) {x : A} {y : ℕ → A} {z : ThreadId → A} → P x → ((m : ℕ) → P (y m)) → ((t : ThreadId) → P (z t))
-    → P (elim l [ locked.Free ↦ x | locked.Read m ↦ y m | locked.Write t ↦ z t ])
+pub by_lock : {A : Type 0} (P : A → Type 0) (l : Option Locked) {x : A} {y : ℕ → A} {z : ThreadId → A} → P x → ((m : ℕ) → P (y m)) → ((t : ThreadId) → P (z t))
+    → P (elim l [ None ↦ x | Some (locked.Read m) ↦ y m | Some (locked.Write t) ↦ z t ])
 by_lock P l p q r = by-locked P l (λ e. p) (λ m e. q m) (λ t e. r t)
 
 -- a join of clocks with `C` has it; of a's own clock, from one with `B`, the count may rise once
@@ -206,7 +205,7 @@ module _ (C D : Clock → Type 0) (join : (c d : Clock) → C c → C d → C (j
     rwlock_kept rwlock-call.TryAcquireReadLock s h = by_lock (Fine (OfRwLock C D)) s.lock (h, (h.1, tt)) (λ m. (h, (h.1, tt))) (λ t. (h, tt))
     rwlock_kept rwlock-call.TryAcquireWriteLock s h = by_lock (Fine (OfRwLock C D)) s.lock (h, (h.1, tt)) (λ m. (h, tt)) (λ t. (h, tt))
     rwlock_kept rwlock-call.ReleaseReadLock s h =
-        let left : OfRwLock C D (rwlock.locked locked.Free (join_of s.synchronize by) s) = (h.0, join _ _ h.1 p) in
+        let left : OfRwLock C D (rwlock.locked None (join_of s.synchronize by) s) = (h.0, join _ _ h.1 p) in
         by_lock (Fine (OfRwLock C D)) s.lock (h, tt) (λ m. by_test (Fine (OfRwLock C D)) (eqb (rwlock.without_reader m a) 0) (λ z. (left, tt)) (λ z. (left, tt))) (λ t. (h, tt))
     rwlock_kept rwlock-call.ReleaseWriteLock s h = ((h.0, join _ _ h.1 p), tt)
 
@@ -247,7 +246,7 @@ module _ (C D : Clock → Type 0) (join : (c d : Clock) → C c → C d → C (j
     arc_kept arc-call.GetMut s h = by_test (Fine (OfArc C D)) (eqb s.ref_cnt 0) (λ z. (h, tt)) (λ z. (h, (h.0, tt)))
     arc_kept arc-call.StrongCount s h = by_test (Fine (OfArc C D)) (eqb s.ref_cnt 0) (λ z. (h, tt)) (λ z. (h, (h.0, tt)))
 
-    accessing-kept : (misuse : Bool) (track : Ending) (s next : CellState) (xs : List Touch) → OfCell C D s → Fine (OfCell C D) (does Kept next xs)
+    accessing-kept : (misuse : Bool) (track : Ending) (s next : CellState) (xs : List Touch) → OfCell C D s → Fine (OfCell C D) (does None next xs)
         → Fine (OfCell C D) (cell.accessing misuse track s next xs)
     unfolding cell.accessing
     accessing-kept misuse track s next xs h i =

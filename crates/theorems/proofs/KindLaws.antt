@@ -1,5 +1,5 @@
 -- An object keeps the kind that the table gave it, and what is announced, waited for, retaken or asked is on an object of its kind. The words are in specs/Kinds.antt.
-use Rattle.std.specs.Prelude.{◌≡◌, refl, true, List, ◌∷◌, ℕ, ◌<◌, length, get_or, drop}
+use Rattle.std.specs.Prelude.{◌≡◌, refl, true, List, ◌∷◌, ℕ, ◌<◌, length, get_or, drop, None, Option, Some, Ok}
 use Rattle.std.proofs.Common.{sym, ◌∙◌, ap, subst, arith}
 use Rattle.std.proofs.lemmas.Bool.{false≢true}
 use Rattle.clocks.specs.declared.clock.Clock.{Clock}
@@ -9,8 +9,6 @@ use Rattle.rules.specs.declared.object.ObjectId.{ObjectId}
 use Rattle.rules.specs.declared.object.Entry.{Entry}
 use Rattle.rules.specs.declared.object.Kind.TheVariants as kind
 use Rattle.rules.specs.declared.object.Operation.{Operation}
-use Rattle.rules.specs.declared.condvar.Wait.{Wait}
-use Rattle.rules.specs.declared.condvar.Wait.TheVariants.{On}
 use Rattle.rules.specs.declared.notify.Call.TheVariants as notify-call
 use Rattle.rules.specs.declared.thread.Phase.{Phase}
 use Rattle.rules.specs.declared.thread.Phase.TheVariants.{Nothing, Announced, Parked, Retaking}
@@ -19,12 +17,10 @@ use Rattle.rules.specs.declared.table.Call.TheVariants.{Mutex, RwLock, Condvar, 
 use Rattle.rules.specs.declared.table.Made.{Made}
 use Rattle.rules.specs.declared.table.Op.{Op}
 use Rattle.rules.specs.declared.table.Table.{Table}
-use Rattle.rules.specs.declared.world.Asked.{Asked}
-use Rattle.rules.specs.declared.world.Asked.TheVariants as asked
 use Rattle.rules.specs.declared.world.World.{World}
 use Rattle.rules.specs.Object.{new_entry, no_object}
 use Rattle.rules.specs.Notify as notify
-use Rattle.rules.specs.Table.{no_op, kind_of, ops_of, accepted, read_table}
+use Rattle.rules.specs.Table.{no_op, kind_of, ops_of, read_table}
 use Rattle.rules.specs.TableLaws.{Within}
 use Rattle.rules.proofs.TableLaws.{read-within}
 use Rattle.rules.specs.Effect.{asks, wait_of, set_last_access, doing}
@@ -86,12 +82,12 @@ asks-wait (Arc c) e h = absurd (false≢true h)
 asks-wait (Cell c) e h = absurd (false≢true h)
 
 -- in every world that the sheet of an accepted table shows
-module _ (bs list : List ℕ) (table : Table) (w : World) (a : read_table bs ≡ accepted table) (e : Shown table list w) where
+module _ (bs list : List ℕ) (table : Table) (w : World) (a : read_table bs ≡ Ok table) (e : Shown table list w) where
   -- an object's kind
   pub kind_kept : (o : ObjectId) → (entry_in w o).kind ≡ (get_or table.objects o.0 no_object).kind
   kind_kept o = lasting table (KindOf table.objects) (kinds_last table.thread_count table.objects) bs list w a e o.0
 
-  mutex_kept : (m : Wait) (o : ObjectId) → m ≡ On o → WaitsOnMutex table.objects m → (entry_in w o).kind ≡ kind.Mutex
+  mutex_kept : (m : Option ObjectId) (o : ObjectId) → m ≡ Some o → WaitsOnMutex table.objects m → (entry_in w o).kind ≡ kind.Mutex
   mutex_kept m o q h = kind_kept o ∙ subst (WaitsOnMutex table.objects) q h
 
   -- what is announced, waited for or retaken
@@ -111,14 +107,14 @@ module _ (bs list : List ℕ) (table : Table) (w : World) (a : read_table bs ≡
   pub asked_wait : AskedWait table w.asked w
   asked_wait = go w.asked (orderly bs list table w a e).asked
     where
-      go : (x : Asked) → AskedIs table x w → AskedWait table x w
-      go asked.Nobody h = tt
-      go (asked.Thread t) h =
+      go : (x : Option ThreadId) → AskedIs table x w → AskedWait table x w
+      go None h = tt
+      go (Some t) h =
           let op : Op = get_or (ops_left table w t) 0 no_op in
           let r = asks-wait op.call (entry_in w op.object) h.3 in
           (r.0, kind_kept op.object ∙ (ops_typed bs table a t.0 (thread_in w t).position h.2).0 ∙ ap kind_of r.0, r.1)
 
-module _ (bs : List ℕ) (table : Table) (a : read_table bs ≡ accepted table) where
+module _ (bs : List ℕ) (table : Table) (a : read_table bs ≡ Ok table) where
   abbrev KindsIn : World → Type 0
   KindsIn w = Objects table (KindOf table.objects) (kinds_last table.thread_count table.objects) w
 
@@ -140,16 +136,16 @@ module _ (bs : List ℕ) (table : Table) (a : read_table bs ≡ accepted table) 
             subst (λ (y : Op). (get_or table.objects y.object.0 no_object).kind ≡ kind_of y.call) (sym k) (subst (WaitsOnMutex table.objects) p.1 (ops_typed bs table a t.0 (thread_in w t).position p.0).1)
 
     -- the mutex of a wait
-    waited : (op : Op) (m : ObjectId) → Takes (thread_in w t).phase (ops_left table w t) op → wait_of op.call ≡ On m → (get_or table.objects m.0 no_object).kind ≡ kind.Mutex
+    waited : (op : Op) (m : ObjectId) → Takes (thread_in w t).phase (ops_left table w t) op → wait_of op.call ≡ Some m → (get_or table.objects m.0 no_object).kind ≡ kind.Mutex
     waited op m k f = go (thread_in w t).phase k (order.threads.1 t.0).0
       where
         go : (x : Phase) → Takes x (ops_left table w t) op → PhaseIs x (ops_left table w t) → (get_or table.objects m.0 no_object).kind ≡ kind.Mutex
         go Nothing k p = absurd k
         go (Announced x) k p = subst (WaitsOnMutex table.objects) (ap (λ (y : Op). wait_of y.call) (sym k) ∙ f) (ops_typed bs table a t.0 (thread_in w t).position p.0).1
         go Parked k p = absurd k
-        go (Retaking x) k p = let q : wait_of (retaking x).call ≡ On m = ap (λ (y : Op). wait_of y.call) (sym k) ∙ f in let z : ◌≡◌ {A = ℕ} 0 1 = cc in absurd (omega (arith, z))
+        go (Retaking x) k p = let q : wait_of (retaking x).call ≡ Some m = ap (λ (y : Op). wait_of y.call) (sym k) ∙ f in let z : ◌≡◌ {A = ℕ} 0 1 = cc in absurd (omega (arith, z))
 
-    begins : Within table → w.asked ≡ asked.Nobody → Begins table w t OfKind (λ ops v. phases.Mid table t ops v × KindsIn v) (λ v. Orderly table v × KindsIn v)
+    begins : Within table → w.asked ≡ None → Begins table w t OfKind (λ ops v. phases.Mid table t ops v × KindsIn v) (λ v. Orderly table v × KindsIn v)
     begins n nobody =
         let l = kinds_last table.thread_count table.objects in
         begins_sees table w t _ OfKind _ _
@@ -159,7 +155,7 @@ module _ (bs : List ℕ) (table : Table) (a : read_table bs ≡ accepted table) 
         (λ op m k f. objects.in_effect_lem table (KindOf table.objects) l t member w h op m.0 ∙ waited op m k f)
 
 -- before each effect of a further decision
-pub effect_kind : (bs list : List ℕ) (table : Table) (w : World) → read_table bs ≡ accepted table → Reached table list w → (d : ℕ) → Each OfKind table w d
+pub effect_kind : (bs list : List ℕ) (table : Table) (w : World) → read_table bs ≡ Ok table → Reached table list w → (d : ℕ) → Each OfKind table w d
 effect_kind bs list table w a e =
     let s = reached-shown table list w e in
     let n = (read-within bs table a).0 in

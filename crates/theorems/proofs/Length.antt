@@ -1,5 +1,5 @@
 -- "No complete list is longer than 97 decisions per thread."
-use Rattle.std.specs.Prelude.{◌≡◌, refl, Bool, List, [], ◌∷◌, ℕ, zero, suc, ◌+◌, ◌-◌, ◌*◌, ◌≤◌, ◌<◌, T, ltb, length, get_or, drop, replicate}
+use Rattle.std.specs.Prelude.{◌≡◌, refl, Bool, List, [], ◌∷◌, ℕ, zero, suc, ◌+◌, ◌-◌, ◌*◌, ◌≤◌, ◌<◌, T, ltb, length, get_or, drop, replicate, None, Option, Some, Ok}
 use Rattle.std.proofs.Common.{◌∙◌, ap, subst, arith, length-take, ltb-true}
 use Rattle.clocks.specs.Clock.{max_threads}
 use Rattle.clocks.specs.Pass.{pass_from}
@@ -11,13 +11,11 @@ use Rattle.rules.specs.declared.thread.Phase.TheVariants as phase
 use Rattle.rules.specs.declared.thread.Thread.{Thread}
 use Rattle.rules.specs.declared.table.Op.{Op}
 use Rattle.rules.specs.declared.table.Table.{Table}
-use Rattle.rules.specs.declared.world.Asked.{Asked}
-use Rattle.rules.specs.declared.world.Asked.TheVariants as asked
 use Rattle.rules.specs.declared.world.World.{World}
 use Rattle.rules.specs.Limits.{max_operations}
 use Rattle.rules.specs.Ground.{absent}
 use Rattle.rules.specs.Effect.{wait_of}
-use Rattle.rules.specs.Table.{accepted, read_table, ops_of, no_op}
+use Rattle.rules.specs.Table.{read_table, ops_of, no_op}
 use Rattle.rules.specs.TableLaws.{Within}
 use Rattle.rules.proofs.TableLaws.{by_test, read-within}
 use Rattle.rules.specs.Turn.{thread_in, start_thread, start}
@@ -51,21 +49,21 @@ module _ (table : Table) (n : Within table) (w : World) (g : Good table w) where
   pub left_some : 0 < left table w
   left_some = go w.asked refl g.ready
     where
-      go : (a : Asked) → w.asked ≡ a → Ready table w.asked w.threads → 0 < left table w
-      go asked.Nobody e r =
-          let who = some_runnable w.threads (subst (λ (x : Asked). Ready table x w.threads) e r) in
+      go : (a : Option ThreadId) → w.asked ≡ a → Ready table w.asked w.threads → 0 < left table w
+      go None e r =
+          let who = some_runnable w.threads (subst (λ (x : Option ThreadId). Ready table x w.threads) e r) in
           let t : ThreadId = record { 0 = who.0 } in
           let within = runnable_within table w g n t who.1 in
           let some : 0 < left_in (thread_in w t).phase (ops_at table t.0 (shape (thread_in w t))) = part_some (thread_in w t).phase _ (sound_here table w g n t within) in
           let alive : left_at table t.0 (shape (thread_in w t)) ≡ left_in (thread_in w t).phase (ops_at table t.0 (shape (thread_in w t))) =
           ap (λ (b : Bool). left_shape (record { position = (thread_in w t).position; phase = (thread_in w t).phase; ended = b }) (ops_at table t.0 (shape (thread_in w t)))) (runs (thread_in w t).state who.1) in
-          let b : left table w ≡ total table 0 (shapes w.threads) - 0 = left_sum table w ∙ ap (λ (x : Asked). total table 0 (shapes w.threads) - asked_of x) e ∙ ap (λ (k : ℕ). total table 0 (shapes w.threads) - k) asked_none in
+          let b : left table w ≡ total table 0 (shapes w.threads) - 0 = left_sum table w ∙ ap (λ (x : Option ThreadId). total table 0 (shapes w.threads) - asked_of x) e ∙ ap (λ (k : ℕ). total table 0 (shapes w.threads) - k) asked_none in
           omega (arith, some, alive, b, part_at t within)
-      go (asked.Thread t) e r =
-          let q : Ready table (asked.Thread t) w.threads = subst (λ (x : Asked). Ready table x w.threads) e r in
+      go (Some t) e r =
+          let q : Ready table (Some t) w.threads = subst (λ (x : Option ThreadId). Ready table x w.threads) e r in
           let here : left_at table t.0 (shape (thread_in w t)) ≡ 3 * length (ops_at table t.0 (shape (thread_in w t))) + 1 =
           ap (λ (s : Shape). left_shape s (ops_at table t.0 (shape (thread_in w t)))) q.1 ∙ going (ops_at table t.0 (shape (thread_in w t))) in
-          let b : left table w ≡ total table 0 (shapes w.threads) - 1 = left_sum table w ∙ ap (λ (x : Asked). total table 0 (shapes w.threads) - asked_of x) e ∙ ap (λ (k : ℕ). total table 0 (shapes w.threads) - k) (asked_one t) in
+          let b : left table w ≡ total table 0 (shapes w.threads) - 1 = left_sum table w ∙ ap (λ (x : Option ThreadId). total table 0 (shapes w.threads) - asked_of x) e ∙ ap (λ (k : ℕ). total table 0 (shapes w.threads) - k) (asked_one t) in
           omega (arith, here, b, q.2, part_at t q.0)
 
 -- each decision takes at least one off
@@ -102,7 +100,7 @@ pub start_left : (table : Table) → Within table → left table (start table) �
 unfolding start
 start_left table w = omega (arith, left_sum table (start table), start-total table w table.thread_count 0 max_threads)
 
-pub list_length : (bs : List ℕ) (table : Table) → read_table bs ≡ accepted table → (list : List ℕ) → Complete table list → length list ≤ 97 * table.thread_count
+pub list_length : (bs : List ℕ) (table : Table) → read_table bs ≡ Ok table → (list : List ℕ) → Complete table list → length list ≤ 97 * table.thread_count
 list_length bs table e list c =
     let h = read-within bs table e in
     omega (arith, complete-left table h.0 list (start table) (start_good table h.0 h.1) c, start_left table h.0)

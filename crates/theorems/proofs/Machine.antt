@@ -1,7 +1,8 @@
 -- The four things that the laws of the walk ask of a machine, of document 01's decisions: they are bounded, one is allowed wherever one is wanted,
 -- good worlds are kept, and the falling number falls.
 use Rattle.std.proofs.Math.Path.{◌≡◌, subst}
-use Rattle.std.specs.Prelude.{refl, true, false, List, [], ◌∷◌, ℕ, suc, ◌≤◌, ◌<◌, get_or}
+use Rattle.clocks.specs.declared.thread.ThreadId.{ThreadId}
+use Rattle.std.specs.Prelude.{refl, true, false, List, [], ◌∷◌, ℕ, suc, ◌≤◌, ◌<◌, get_or, None, Option, Some}
 use Rattle.std.proofs.Common.{sym, ◌∙◌, ap, arith}
 use Rattle.std.proofs.lemmas.Bool.{false≢true, lt-leb}
 use Rattle.std.proofs.Math.ListN.{get_or-eq_default}
@@ -10,8 +11,6 @@ use Rattle.lists.specs.Rules.{Outcome, allowedb}
 use Rattle.lists.specs.Rules as outcome
 use Rattle.rules.specs.declared.thread.Thread.{Thread}
 use Rattle.rules.specs.declared.table.Table.{Table}
-use Rattle.rules.specs.declared.world.Asked.{Asked}
-use Rattle.rules.specs.declared.world.Asked.TheVariants as asked
 use Rattle.rules.specs.declared.world.Step.{Step}
 use Rattle.rules.specs.declared.world.Step.TheVariants.{Refused, Done, Wants}
 use Rattle.rules.specs.declared.world.World.{World}
@@ -41,18 +40,18 @@ module _ (table : Table) (n : Within table) where
   pub bounded : (w : World) (d : ℕ) → Good table w → max_threads ≤ d → step table w d ≡ outcome.refused
   bounded w d g h = refused_is (step table w d) (allowed_is table w d ∙ go w.asked)
     where
-      go : (a : Asked) → is_allowed a w.threads d ≡ false
-      go asked.Nobody = ap (λ (x : Thread). is_runnable x.state) (get_or-eq_default w.threads absent (omega (arith, h, g.long)))
-      go (asked.Thread t) = lt-leb d 1 (omega (arith, h))
+      go : (a : Option ThreadId) → is_allowed a w.threads d ≡ false
+      go None = ap (λ (x : Thread). is_runnable x.state) (get_or-eq_default w.threads absent (omega (arith, h, g.long)))
+      go (Some t) = lt-leb d 1 (omega (arith, h))
 
   pub some_allowed : (w : World) → Good table w → (d : ℕ) × (step table w d ≡ outcome.refused → ⊥)
   some_allowed w g =
       let it = go w.asked g.ready in
       (it.0, λ e. false≢true (sym (ap allowedb e) ∙ allowed_is table w it.0 ∙ it.1))
     where
-      go : (a : Asked) → Ready table a w.threads → (d : ℕ) × (is_allowed a w.threads d ≡ true)
-      go asked.Nobody r = some_runnable w.threads r
-      go (asked.Thread t) r = (0, refl)
+      go : (a : Option ThreadId) → Ready table a w.threads → (d : ℕ) × (is_allowed a w.threads d ≡ true)
+      go None r = some_runnable w.threads r
+      go (Some t) r = (0, refl)
 
   kept : (w : World) (s : Step) (v w' : World) → Then table (left table w) s v → outcome_of s v ≡ outcome.wants w' → Good table w' × (left table w' < left table w)
   unfolding outcome_of

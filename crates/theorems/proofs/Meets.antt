@@ -1,5 +1,5 @@
 -- Demand 3: what document 01's "first" and "next" find is what the demand asks for, over the lists that are complete under the step rules.
-use Rattle.std.specs.Prelude.{◌≡◌, refl, List, ℕ, ◌<◌, T}
+use Rattle.std.specs.Prelude.{◌≡◌, refl, List, ℕ, ◌<◌, T, Err, Ok}
 use Rattle.std.proofs.Common.{sym, ◌∙◌, ap, subst}
 use Rattle.lists.specs.Judge.{Judged, not_allowed, surplus, unfinished, verdict, is_verdict, judge}
 use Rattle.lists.proofs.Judge.{judge-complete}
@@ -8,7 +8,7 @@ use Rattle.lists.specs.Next as next
 use Rattle.lists.proofs.Next as next-laws
 use Rattle.rules.specs.declared.table.Table.{Table}
 use Rattle.rules.specs.declared.world.World.{World}
-use Rattle.rules.specs.Table.{Read, refused, accepted, read_table}
+use Rattle.rules.specs.Table.{Read, read_table}
 use Rattle.rules.specs.Turn.{start}
 use Rattle.rules.specs.Judge.{Verdict, step}
 use Rattle.rules.specs.Walk.{decisions, left, first_table, first_of, next_table, next_judged, next_of}
@@ -38,8 +38,8 @@ unfolding first_of first_table
 first_meets bs buffer = go (read_table bs) refl
   where
     go : (r : Read) → read_table bs ≡ r → FirstMust r buffer (first_table r buffer)
-    go (refused a) e = refl
-    go (accepted t) e = let h = read-within bs t e in (_, first_is t h.0 h.1, refl)
+    go (Err a) e = refl
+    go (Ok t) e = let h = read-within bs t e in (_, first_is t h.0 h.1, refl)
 
 pub next_meets : (bs list buffer : List ℕ) → Next bs list buffer (next_of bs list buffer)
 unfolding next_of next_table next_judged
@@ -53,5 +53,5 @@ next_meets bs list buffer = go (read_table bs) refl
     by_list t w some (verdict v) q = (_, next_is t w some list (complete_told t list v q), refl)
 
     go : (r : Read) → read_table bs ≡ r → NextMust r list buffer (next_table r list buffer)
-    go (refused a) e = refl
-    go (accepted t) e = let h = read-within bs t e in by_list t h.0 h.1 (judge (step t) 0 (start t) list) refl
+    go (Err a) e = refl
+    go (Ok t) e = let h = read-within bs t e in by_list t h.0 h.1 (judge (step t) 0 (start t) list) refl

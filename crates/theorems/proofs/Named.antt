@@ -1,13 +1,11 @@
 -- The objects that an accepted table's operations name are among its places. The words are in specs/Named.antt.
-use Rattle.std.specs.Prelude.{◌≡◌, refl, Bool, true, false, ◌&&◌, List, [], ◌∷◌, ℕ, zero, suc, ◌*◌, ◌≤◌, ◌<◌, ltb, length, get_or, drop, take}
+use Rattle.std.specs.Prelude.{◌≡◌, refl, Bool, true, false, ◌&&◌, List, [], ◌∷◌, ℕ, zero, suc, ◌*◌, ◌≤◌, ◌<◌, ltb, length, get_or, drop, take, None, Option, Some, Ok}
 use Rattle.std.proofs.Common.{◌∙◌, ap, arith, length-set, ltb-true, ltb-false, eqb-true}
 use Rattle.std.proofs.lemmas.Bool.{false≢true}
 use Rattle.std.proofs.Math.ListN.{get_or-eq_default}
 use Rattle.rules.specs.declared.object.ObjectId.{ObjectId}
 use Rattle.rules.specs.declared.object.Kind.{Kind}
 use Rattle.rules.specs.declared.object.Kind.TheVariants as kind
-use Rattle.rules.specs.declared.condvar.Wait.{Wait}
-use Rattle.rules.specs.declared.condvar.Wait.TheVariants.{On, Nowhere}
 use Rattle.rules.specs.declared.table.Call.{Call}
 use Rattle.rules.specs.declared.table.Call.TheVariants.{Mutex, RwLock, Condvar, Notify, Channel, Arc, Cell}
 use Rattle.rules.specs.declared.table.Made.{Made}
@@ -16,7 +14,7 @@ use Rattle.rules.specs.declared.table.Table.{Table}
 use Rattle.rules.specs.Limits.{max_objects, max_operations, op_places}
 use Rattle.rules.specs.Object.{no_object}
 use Rattle.rules.specs.Effect.{wait_of}
-use Rattle.rules.specs.Table.{accepted, kind_of, kind_number, is_kind, mutex_fine, objects_fine, no_op, with_object, with_thread, with_op, empty_table, read_table, ops_of}
+use Rattle.rules.specs.Table.{kind_of, kind_number, is_kind, mutex_fine, objects_fine, no_op, with_object, with_thread, with_op, empty_table, read_table, ops_of}
 use Rattle.rules.proofs.TableLaws.{split, accepted_by}
 use Rattle.theorems.specs.All.{All}
 use Rattle.theorems.proofs.All.{all_set, all_same}
@@ -47,9 +45,9 @@ kind_low (Arc c) = omega arith
 kind_low (Cell c) = omega arith
 
 -- a wait's mutex is there
-mutex_there : (ms : List Made) (m : Wait) → length ms ≡ max_objects → mutex_fine ms m ≡ true → MutexNamed m
-mutex_there ms Nowhere l e = tt
-mutex_there ms (On m) l e = kind_there ms m kind.Mutex l (omega arith) e
+mutex_there : (ms : List Made) (m : Option ObjectId) → length ms ≡ max_objects → mutex_fine ms m ≡ true → MutexNamed m
+mutex_there ms None l e = tt
+mutex_there ms (Some m) l e = kind_there ms m kind.Mutex l (omega arith) e
 
 -- both halves of an and
 pub both : (a b : Bool) → (a && b) ≡ true → (a ≡ true) × (b ≡ true)
@@ -84,12 +82,12 @@ unfolding empty_table
 empty-fine = (refl, all_same Named no_op (omega arith, tt) op_places)
 
 -- so an accepted table
-read-fine : (bs : List ℕ) (table : Table) → read_table bs ≡ accepted table → Fine table
+read-fine : (bs : List ℕ) (table : Table) → read_table bs ≡ Ok table → Fine table
 read-fine bs table e =
     (accepted_by Fine (λ t m l h. object_fine t m h) (λ t l h. thread-fine t h) (λ t op l f h. op-fine t op h (named t.objects op h.0 f)) empty-fine bs table e).0
 
 -- an accepted table has its places for objects
-pub objects_there : (bs : List ℕ) (table : Table) → read_table bs ≡ accepted table → length table.objects ≡ max_objects
+pub objects_there : (bs : List ℕ) (table : Table) → read_table bs ≡ Ok table → length table.objects ≡ max_objects
 objects_there bs table e = (read-fine bs table e).0
 
 -- and each operation that is left to a thread names objects that have places; a place that is not there reads an operation that does, too
@@ -106,7 +104,7 @@ named_drop (suc n) [] h k = h k
 named_drop (suc n) (op ∷ ops) h k = named_drop n ops (λ j. h (suc j)) k
 
 -- of a thread, from a position on
-pub ops_named : (bs : List ℕ) (table : Table) → read_table bs ≡ accepted table → (t p k : ℕ) → Named (get_or (drop p (ops_of table t)) k no_op)
+pub ops_named : (bs : List ℕ) (table : Table) → read_table bs ≡ Ok table → (t p k : ℕ) → Named (get_or (drop p (ops_of table t)) k no_op)
 unfolding ops_of
 ops_named bs table e t p k =
     named_drop p (ops_of table t) (named_take (get_or table.counts t 0) (drop (max_operations * t) table.ops) (named_drop (max_operations * t) table.ops (read-fine bs table e).1)) k

@@ -1,5 +1,5 @@
 -- What lasts of each object: what the table makes has it, and every effect of one of the table's threads keeps it. The words are in specs/Objects.antt.
-use Rattle.std.specs.Prelude.{◌≡◌, List, [], ◌∷◌, map, ℕ, zero, suc, ◌<◌, get_or}
+use Rattle.std.specs.Prelude.{◌≡◌, List, [], ◌∷◌, map, ℕ, zero, suc, ◌<◌, get_or, Ok}
 use Rattle.clocks.specs.declared.thread.ThreadId.{ThreadId}
 use Rattle.rules.specs.declared.object.ObjectId.{ObjectId}
 use Rattle.rules.specs.declared.object.Entry.{Entry}
@@ -13,7 +13,7 @@ use Rattle.rules.specs.declared.table.Table.{Table}
 use Rattle.rules.specs.declared.world.World.{World}
 use Rattle.rules.specs.Ground.{thread_at}
 use Rattle.rules.specs.Object.{new_entry, no_object, put_entry}
-use Rattle.rules.specs.Table.{accepted, read_table}
+use Rattle.rules.specs.Table.{read_table}
 use Rattle.rules.specs.TableLaws.{Within}
 use Rattle.rules.proofs.TableLaws.{read-within}
 use Rattle.rules.specs.Effect.{effect}
@@ -104,13 +104,13 @@ module _ (table : Table) (P : ℕ → Entry → Type 0) (l : Lasting table.threa
         decide-each table n w g Before (λ t ops v. Objects v) Objects h (λ t x. begins t (acting table w order t x) w h) (λ t q r. answers t (asking table w order t q).0 w h)
 
   -- in every world that the sheet of the table, accepted, shows
-  pub lasting : (bs list : List ℕ) (w : World) → read_table bs ≡ accepted table → Shown table list w → Objects w
+  pub lasting : (bs list : List ℕ) (w : World) → read_table bs ≡ Ok table → Shown table list w → Objects w
   lasting bs list w a e =
       let h = read-within bs table a in
       (shown_by table h.0 (λ u v. Orderly table v × Objects v) (λ u v d g m i. (decide_orderly table h.0 v g i.0 d, decided h.0 v g i.0 i.1 d)) h.1
       (start_orderly table, start_objects) list w e).1.1
 
   -- and before each effect of a further decision
-  pub lasting_before : (bs list : List ℕ) (w : World) → read_table bs ≡ accepted table → Reached table list w → (d : ℕ) → Each Before table w d
+  pub lasting_before : (bs list : List ℕ) (w : World) → read_table bs ≡ Ok table → Reached table list w → (d : ℕ) → Each Before table w d
   lasting_before bs list w a e =
       let s = reached-shown table list w e in each_before (read-within bs table a).0 w (reached_good bs list table w a e) (orderly bs list table w a s) (lasting bs list w a s)

@@ -1,5 +1,5 @@
 -- Place k of every clock, in a turn of thread k itself: at most one more for each operation that is done, and two more in dependence clocks.
-use Rattle.std.specs.Prelude.{◌≡◌, ◌≢◌, Bool}
+use Rattle.std.specs.Prelude.{◌≡◌, ◌≢◌, Bool, None, Option, Some}
 use Rattle.std.proofs.Math.Path.{refl, sym, ap}
 use Rattle.std.proofs.Common.{◌∙◌, arith}
 use Rattle.std.proofs.Math.Bool.{true}
@@ -13,17 +13,13 @@ use Rattle.rules.specs.declared.object.ObjectId.{ObjectId}
 use Rattle.rules.specs.declared.object.Action.TheVariants as action
 use Rattle.rules.specs.declared.object.Entry.{Entry}
 use Rattle.rules.specs.declared.mutex.Call.TheVariants as mutex-call
-use Rattle.rules.specs.declared.condvar.Wait.TheVariants.{On}
 use Rattle.rules.specs.declared.thread.Phase.{Phase}
 use Rattle.rules.specs.declared.thread.Phase.TheVariants.{Nothing, Announced, Parked, Retaking}
 use Rattle.rules.specs.declared.thread.Thread.{Thread}
-use Rattle.rules.specs.declared.thread.Answered.{Answered}
-use Rattle.rules.specs.declared.thread.Answered.TheVariants.{Kept}
 use Rattle.rules.specs.declared.table.Call.{Call}
 use Rattle.rules.specs.declared.table.Call.TheVariants.{Mutex, RwLock, Condvar, Notify, Channel, Arc, Cell}
 use Rattle.rules.specs.declared.table.Op.{Op}
 use Rattle.rules.specs.declared.table.Table.{Table}
-use Rattle.rules.specs.declared.world.Asked.TheVariants as asked
 use Rattle.rules.specs.declared.world.World.{World}
 use Rattle.rules.specs.Limits.{max_operations}
 use Rattle.rules.specs.Ground.{with_position, thread_at, put_thread, set_runnable, has_unpark}
@@ -48,7 +44,7 @@ use Rattle.theorems.specs.Weight.{dependence_of, Stay, Going, Bounded, Spare, Mi
 use Rattle.theorems.proofs.Weight.{room}
 
 -- a wait raises no own count
-wait_raises : (c : Call) (m : ObjectId) → wait_of c ≡ On m → Raises c → ⊥
+wait_raises : (c : Call) (m : ObjectId) → wait_of c ≡ Some m → Raises c → ⊥
 wait_raises (Mutex c) m e r = r
 wait_raises (RwLock c) m e r = r
 wait_raises (Condvar c) m e r = r
@@ -87,7 +83,7 @@ module _ (k : ℕ) (t : ThreadId) (within : t.0 < max_threads) (it : t.0 ≡ k) 
       ((g.threads.1 t.0).0, (g.threads.1 t.0).1, λ z. (omega (arith, q, l), q, ap (λ (r : ℕ). dependence_of r f) q)))
 
   -- one operation more is done
-  own_advance : (b c p : ℕ) (n : Answered) (ts : List Thread) (es : List Entry) → p < max_operations → b ≤ p + 1 → c ≤ 2 * (p + 1) → Clocks k b c (Going k p) ts es
+  own_advance : (b c p : ℕ) (n : Option ℕ) (ts : List Thread) (es : List Entry) → p < max_operations → b ≤ p + 1 → c ≤ 2 * (p + 1) → Clocks k b c (Going k p) ts es
       → Clocks k (p + 1) (2 * (p + 1)) (Going k (p + 1)) (advance t n ts) es
   unfolding advance
   own_advance b c p n ts es l m m' h =
@@ -244,7 +240,7 @@ module _ (k : ℕ) (t : ThreadId) (within : t.0 < max_threads) (it : t.0 ≡ k) 
         }
 
     -- an answer to a question
-    pub own_answers : Ready table (asked.Thread t) w.threads → Answers table w t (Bounded k)
+    pub own_answers : Ready table (Some t) w.threads → Answers table w t (Bounded k)
     unfolding announce_op spurious
     own_answers r =
         let f : (thread_in w t).phase ≡ Nothing = ap (λ (s : Shape). s.phase) r.1 in
@@ -252,7 +248,7 @@ module _ (k : ℕ) (t : ThreadId) (within : t.0 < max_threads) (it : t.0 ≡ k) 
         let x : Clocks k done (2 * done) (Going k done) (put_thread w.threads t (set_runnable (thread_in w t))) w.objects =
         own_put done (2 * done) done w.threads w.objects (set_runnable (thread_in w t)) refl refl refl f g in
         let one : 0 < length (ops_left table w t) = r.2 in
-        let y = own_advance done (2 * done) done Kept _ w.objects (omega (arith, room table n w t few, one)) (omega arith) (omega arith) x in
+        let y = own_advance done (2 * done) done None _ w.objects (omega (arith, room table n w t few, one)) (omega arith) (omega arith) x in
         record {
           goes = λ op o. record { bound = done; depth = 2 * done; clocks = own_announced (2 * done) done (Going k done) w.threads w.objects _ _ few (omega arith) refl g };
           wakes =

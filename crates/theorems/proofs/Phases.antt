@@ -1,6 +1,6 @@
 -- What a thread has announced, waits for when parked, or retakes, is what the operation at its position says; who is asked stands before a wait that may
 -- end spuriously; and a thread that the table does not have has ended, with nothing announced. The words are in specs/Phases.antt.
-use Rattle.std.specs.Prelude.{◌≡◌, Bool, ℕ, ◌≤◌, ◌<◌, ltb, get_or, drop}
+use Rattle.std.specs.Prelude.{◌≡◌, Bool, ℕ, ◌≤◌, ◌<◌, ltb, get_or, drop, None, Option, Some, Ok}
 use Rattle.std.proofs.Math.Path.{refl, ap, subst}
 use Rattle.std.proofs.Common.{sym, ◌∙◌, length-set, get_or-set_same, ltb-true, ltb-false}
 use Rattle.std.proofs.Math.Bool.{true}
@@ -14,24 +14,19 @@ use Rattle.rules.specs.declared.object.ObjectId.{ObjectId}
 use Rattle.rules.specs.declared.object.Action.TheVariants as action
 use Rattle.rules.specs.declared.object.Entry.{Entry}
 use Rattle.rules.specs.declared.mutex.Call.TheVariants as mutex-call
-use Rattle.rules.specs.declared.condvar.Wait.TheVariants.{On}
 use Rattle.rules.specs.declared.thread.State.TheVariants as state
 use Rattle.rules.specs.declared.thread.Phase.{Phase}
 use Rattle.rules.specs.declared.thread.Phase.TheVariants.{Nothing, Announced, Parked, Retaking}
 use Rattle.rules.specs.declared.thread.Thread.{Thread}
-use Rattle.rules.specs.declared.thread.Answered.{Answered}
-use Rattle.rules.specs.declared.thread.Answered.TheVariants.{Kept}
 use Rattle.rules.specs.declared.table.Call.{Call}
 use Rattle.rules.specs.declared.table.Call.TheVariants.{Mutex}
 use Rattle.rules.specs.declared.table.Op.{Op}
 use Rattle.rules.specs.declared.table.Table.{Table}
-use Rattle.rules.specs.declared.world.Asked.{Asked}
-use Rattle.rules.specs.declared.world.Asked.TheVariants as asked
 use Rattle.rules.specs.declared.world.World.{World}
 use Rattle.rules.specs.Ground.{absent, thread_at, put_thread, with_state, with_phase, with_position, with_answer, set_runnable, has_unpark, is_runnable, is_on, unpark_state}
 use Rattle.rules.specs.Object.{announced}
 use Rattle.rules.specs.Mutex as mutex
-use Rattle.rules.specs.Table.{no_op, ops_of, accepted, read_table}
+use Rattle.rules.specs.Table.{no_op, ops_of, read_table}
 use Rattle.rules.specs.TableLaws.{Within}
 use Rattle.rules.proofs.TableLaws.{by_test, split, step_on, read-within}
 use Rattle.rules.specs.Effect.{action_of, asks, wait_of, effect}
@@ -49,7 +44,7 @@ use Rattle.theorems.proofs.Each.{decide_passes}
 use Rattle.theorems.specs.Phases.{PhaseIs, Stand, AskedIs, NamedIn}
 
 -- one operation more is done: those after it are left
-pub advance-left : (table : Table) → Within table → (t : ThreadId) (n : Answered) (ts : List Thread) (op : Op) (ops : List Op) → t.0 < length ts
+pub advance-left : (table : Table) → Within table → (t : ThreadId) (n : Option ℕ) (ts : List Thread) (op : Op) (ops : List Op) → t.0 < length ts
     → drop (thread_at ts t).position (ops_of table t.0) ≡ op ∷ ops → drop (thread_at (advance t n ts) t).position (ops_of table t.0) ≡ ops
 unfolding advance
 advance-left table limits t n ts op ops l e =
@@ -59,8 +54,8 @@ advance-left table limits t n ts op ops l e =
     ∙ step_on table limits t.0 (thread_at ts t).position ∙ ap (λ (os : List Op). drop 1 os) e)
 
 module _ (table : Table) where
-  nobody_is : (w : World) → w.asked ≡ asked.Nobody → AskedIs table w.asked w
-  nobody_is w e = subst (λ (a : Asked). AskedIs table a w) (sym e) tt
+  nobody_is : (w : World) → w.asked ≡ None → AskedIs table w.asked w
+  nobody_is w e = subst (λ (a : Option ThreadId). AskedIs table a w) (sym e) tt
 
   pub record Orderly (w : World) : Type 0 where
     pub threads : Hold max_threads (Stand table) w.threads
@@ -78,7 +73,7 @@ module _ (table : Table) where
 
     pub record Mid (ops : List Op) (v : World) : Type 0 where
       pub turn : InTurn ops v.threads
-      pub nobody : v.asked ≡ asked.Nobody
+      pub nobody : v.asked ≡ None
 
   module _ (t : ThreadId) (member : t.0 < table.thread_count) (limits : Within table) where
     -- t is a thread of the table
@@ -115,7 +110,7 @@ module _ (table : Table) where
         }
 
     -- one operation more is done
-    advanced : (op : Op) (ops : List Op) (n : Answered) (ts : List Thread) → InTurn t (op ∷ ops) ts → InTurn t ops (advance t n ts)
+    advanced : (op : Op) (ops : List Op) (n : Option ℕ) (ts : List Thread) → InTurn t (op ∷ ops) ts → InTurn t ops (advance t n ts)
     unfolding advance
     advanced op ops n ts h =
         record {
@@ -178,14 +173,14 @@ module _ (table : Table) where
         }
 
     -- a wait, once it is queued: its mutex is released, and it parks or retakes at once
-    parked : (ops : List Op) (m : ObjectId) (e : Entry) (ts : List Thread) → InTurn t ops ts → 0 < length ops → wait_of (get_or ops 0 no_op).call ≡ On m → Hold max_threads (Stand table) (park t m e ts)
+    parked : (ops : List Op) (m : ObjectId) (e : Entry) (ts : List Thread) → InTurn t ops ts → 0 < length ops → wait_of (get_or ops 0 no_op).call ≡ Some m → Hold max_threads (Stand table) (park t m e ts)
     unfolding park retake announced
     parked ops m e ts i l q =
         by_test (Hold max_threads (Stand table)) (has_unpark (thread_at ts t).state)
         (λ z. phased ops (put_thread ts t (set_runnable (thread_at ts t))) (Retaking (record { obj = m; action = action.Opaque })) (mutex.is_locked e.mutex.lock) (same_put ops ts (set_runnable (thread_at ts t)) refl ((i.hold.1 t.0).1 refl) i) (l, q))
-        (λ z. phased ops ts Parked true i (l, q ∙ ap On (sym (ap mutex_of q))))
+        (λ z. phased ops ts Parked true i (l, q ∙ ap Some (sym (ap mutex_of q))))
 
-    waited : (ops : List Op) (m : ObjectId) (v : World) → v.asked ≡ asked.Nobody → InTurn t ops v.threads → 0 < length ops → wait_of (get_or ops 0 no_op).call ≡ On m → Orderly (waiting t m v)
+    waited : (ops : List Op) (m : ObjectId) (v : World) → v.asked ≡ None → InTurn t ops v.threads → 0 < length ops → wait_of (get_or ops 0 no_op).call ≡ Some m → Orderly (waiting t m v)
     unfolding wait
     waited ops m v nobody i l q =
         record {
@@ -214,7 +209,7 @@ module _ (table : Table) where
       after op = effected (ops_left table w t) op.call op.object (recorded t op w) (dependent t op w) (before op)
 
       -- a turn
-      pub begins : w.asked ≡ asked.Nobody → Begins table w t (λ u c e ts. Unit {0}) (Mid t) Orderly
+      pub begins : w.asked ≡ None → Begins table w t (λ u c e ts. Unit {0}) (Mid t) Orderly
       unfolding retake announced
       begins nobody =
           record {
@@ -231,12 +226,12 @@ module _ (table : Table) where
                 λ m o e.
                 let p = subst (λ (x : Phase). PhaseIs x (ops_left table w t)) e (h.threads.1 t.0).0 in
                 record {
-                  threads = retaken m p.0 (p.1 ∙ ap On (sym o));
+                  threads = retaken m p.0 (p.1 ∙ ap Some (sym o));
                   asked = nobody_is _ nobody;
                 };
           }
         where
-          retaken : (m : ObjectId) → 0 < length (ops_left table w t) → wait_of (get_or (ops_left table w t) 0 no_op).call ≡ On m → Hold max_threads (Stand table) (retake t m (entry_in w m) w.threads)
+          retaken : (m : ObjectId) → 0 < length (ops_left table w t) → wait_of (get_or (ops_left table w t) 0 no_op).call ≡ Some m → Hold max_threads (Stand table) (retake t m (entry_in w m) w.threads)
           retaken m l q =
               put_holds max_threads (Stand table) t w.threads _ h.threads (by_test (Stand table t.0) (mutex.is_locked (entry_in w m).mutex.lock) (λ z. ((l, q), stays)) (λ z. ((l, q), stays)))
 
@@ -249,12 +244,12 @@ module _ (table : Table) where
             wakes =
                 λ op o.
                 let us : List Thread = put_thread w.threads t (set_runnable (thread_in w t)) in
-                record { threads = done (advance t Kept us) (woken (ops_left table w t) l (same_put (ops_left table w t) w.threads (set_runnable (thread_in w t)) refl f (begun f))); asked = tt };
+                record { threads = done (advance t None us) (woken (ops_left table w t) l (same_put (ops_left table w t) w.threads (set_runnable (thread_in w t)) refl f (begun f))); asked = tt };
           }
         where
-          woken : (ops : List Op) → 0 < length ops → InTurn t ops (put_thread w.threads t (set_runnable (thread_in w t))) → Hold max_threads (Standing t) (advance t Kept (put_thread w.threads t (set_runnable (thread_in w t))))
+          woken : (ops : List Op) → 0 < length ops → InTurn t ops (put_thread w.threads t (set_runnable (thread_in w t))) → Hold max_threads (Standing t) (advance t None (put_thread w.threads t (set_runnable (thread_in w t))))
           woken [] l i = absurd (omega (arith, l))
-          woken (op ∷ ops) l i = (advanced op ops Kept _ i).hold
+          woken (op ∷ ops) l i = (advanced op ops None _ i).hold
 
   -- a thread that may act is one of the table's
   pub acting : (w : World) → Orderly w → (t : ThreadId) → Acts w t → t.0 < table.thread_count
@@ -263,8 +258,8 @@ module _ (table : Table) where
       (λ l. absurd (false≢true (sym (ap is_runnable ((h.threads.1 t.0).1 (ltb-false t.0 table.thread_count l)).0) ∙ x.runs)))
 
   -- who is asked
-  pub asking : (w : World) → Orderly w → (t : ThreadId) → w.asked ≡ asked.Thread t → AskedIs table (asked.Thread t) w
-  asking w h t q = subst (λ (x : Asked). AskedIs table x w) q h.asked
+  pub asking : (w : World) → Orderly w → (t : ThreadId) → w.asked ≡ Some t → AskedIs table (Some t) w
+  asking w h t q = subst (λ (x : Option ThreadId). AskedIs table x w) q h.asked
 
   -- each decision keeps it
   pub decide_orderly : Within table → (w : World) → Good table w → Orderly w → (d : ℕ) → Orderly (decide table w d).world
@@ -278,7 +273,7 @@ module _ (table : Table) where
   start_orderly = record { threads = start_holds (Stand table) table (λ k. (tt, λ l. (refl, refl))) (λ k x l h. (h.0, λ m. absurd (omega (arith, l, m)))); asked = tt }
 
 -- in every world that the sheet of an accepted table shows
-pub orderly : (bs list : List ℕ) (table : Table) (w : World) → read_table bs ≡ accepted table → Shown table list w → Orderly table w
+pub orderly : (bs list : List ℕ) (table : Table) (w : World) → read_table bs ≡ Ok table → Shown table list w → Orderly table w
 orderly bs list table w a e =
     let h = read-within bs table a in (shown_by table h.0 (λ u v. Orderly table v) (λ u v d g l i. decide_orderly table h.0 v g i d) h.1 (start_orderly table) list w e).1
 
@@ -288,5 +283,5 @@ named_in (Announced p) ops h n = rw h.1 n.0
 named_in Parked ops h n = subst MutexNamed h.1 n.1
 named_in (Retaking p) ops h n = subst MutexNamed h.1 n.1
 
-pub phase_named : (bs list : List ℕ) (table : Table) (w : World) → read_table bs ≡ accepted table → Shown table list w → (t : ThreadId) → NamedIn (thread_in w t).phase (ops_left table w t)
+pub phase_named : (bs list : List ℕ) (table : Table) (w : World) → read_table bs ≡ Ok table → Shown table list w → (t : ThreadId) → NamedIn (thread_in w t).phase (ops_left table w t)
 phase_named bs list table w a e t = named_in (thread_in w t).phase (ops_left table w t) ((orderly bs list table w a e).threads.1 t.0).0 (ops_named bs table a t.0 (thread_in w t).position 0)

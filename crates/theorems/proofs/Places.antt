@@ -1,9 +1,7 @@
 -- Every place that an answer names is small: it fits 16 bits. The words are in specs/Places.antt.
-use Rattle.std.specs.Prelude.{◌≡◌, leb, length, get_or, set}
+use Rattle.std.specs.Prelude.{◌≡◌, leb, length, get_or, set, Err, Ok, None, Option, Some}
 use Rattle.std.proofs.Math.Path.{refl}
 use Rattle.std.proofs.Common.{◌∙◌, subst, length-set, get_or-set_same}
-use Rattle.std.proofs.Math.Option.{Option}
-use Rattle.std.proofs.Math.Option as option
 use mathlib.Core.List.{List, [], ◌∷◌}
 use Prim.Native.Nat.{ℕ, suc, ◌+◌, ◌-◌, ◌≤◌, ◌<◌}
 use native.Mathlib.Omega.{arith}
@@ -20,7 +18,7 @@ use Rattle.rules.specs.declared.world.World.{World}
 use Rattle.clocks.specs.Clock.{max_threads}
 use Rattle.rules.specs.Limits.{max_objects, max_operations, max_list, max_sheet}
 use Rattle.rules.specs.Answer.{numbers_of}
-use Rattle.rules.specs.Table.{Read, refused, accepted, last_count, with_object, with_thread, with_op, empty_table, read_table}
+use Rattle.rules.specs.Table.{Read, last_count, with_object, with_thread, with_op, empty_table, read_table}
 use Rattle.rules.specs.TableLaws.{Within}
 use Rattle.rules.proofs.TableLaws.{by_test, read_by, read-within}
 use Rattle.rules.specs.Turn.{start}
@@ -59,15 +57,15 @@ module _ (table : Table) (w : Within table) where
           omega (arith, f, h)
 
 abbrev Small : Read → Type 0
-Small r = (a : Answer) → r ≡ refused a → place a ≤ max_table
+Small r = (a : Answer) → r ≡ Err a → place a ≤ max_table
 
-at_small : (a : Answer) → place a ≤ max_table → Small (refused a)
+at_small : (a : Answer) → place a ≤ max_table → Small (Err a)
 at_small a h b e = let same : a ≡ b = cc in subst (λ (x : Answer). place x ≤ max_table) same h
 
-accepted_small : (t : Table) → Small (accepted t)
+accepted_small : (t : Table) → Small (Ok t)
 accepted_small t a e = let q : ◌≡◌ {A = ℕ} 0 1 = cc in absurd (omega (arith, q))
 
-stops_small : (at : ℕ) (t : Table) → Room at t → Small (refused (answer.BadRecord at)) × Small (refused (answer.TooMany at)) × Small (refused (answer.BadObject at))
+stops_small : (at : ℕ) (t : Table) → Room at t → Small (Err (answer.BadRecord at)) × Small (Err (answer.TooMany at)) × Small (Err (answer.BadObject at))
 unfolding numbers_of
 stops_small at t r = let small : at ≤ max_table = omega (arith, r.before, r.objects, r.threads) in (at_small _ small, at_small _ small, at_small _ small)
 
@@ -99,7 +97,7 @@ empty-room : Room 0 empty_table
 unfolding empty_table
 empty-room = record { before = omega arith; inside = λ some. absurd (omega (arith, some)); objects = omega arith; threads = omega arith; counts = refl }
 
-pub refused-place : (bs : List ℕ) (a : Answer) → read_table bs ≡ refused a → place a ≤ max_table
+pub refused-place : (bs : List ℕ) (a : Answer) → read_table bs ≡ Err a → place a ≤ max_table
 refused-place bs = read_by Room Small stops_small object_room thread-room (λ at past t op on some l f r. operation-room at past t op on some l r) (λ at t some r. accepted_small t) bs empty-room
 
 -- a verdict has no place
@@ -136,8 +134,8 @@ unfolding judge_of judge_table numbers_of
 judge-place bs list buffer = go (read_table bs) refl
   where
     go : (r : Read) → read_table bs ≡ r → place (judge_table r list buffer).answer ≤ max_sheet
-    go (refused a) e = omega (arith, refused-place bs a e)
-    go (accepted t) e =
+    go (Err a) e = omega (arith, refused-place bs a e)
+    go (Ok t) e =
         let h = read-within bs t e in
         let j = judged_place t h.0 list 0 (start t) (start_good t h.0 h.1) in
         by_test (λ (g : Given). place g.answer ≤ max_sheet) (leb (sheet_length t) (length buffer))
@@ -154,8 +152,8 @@ unfolding first_of first_table
 first-place bs buffer = go (read_table bs) refl
   where
     go : (r : Read) → read_table bs ≡ r → place (first_table r buffer).answer ≤ max_sheet
-    go (refused a) e = omega (arith, refused-place bs a e)
-    go (accepted t) e =
+    go (Err a) e = omega (arith, refused-place bs a e)
+    go (Ok t) e =
         let h = read-within bs t e in
         hand_place _ buffer (list_fits bs t e _ (first_is t h.0 h.1).whole)
 
@@ -163,11 +161,11 @@ pub next_place : (bs list buffer : List ℕ) → place (next_of bs list buffer).
 unfolding next_of next_table next_judged next_list numbers_of
 next_place bs list buffer = go (read_table bs) refl
   where
-    found : (t : Table) → read_table bs ≡ accepted t → (o : Option (List ℕ)) → Answers (step t) (start t) list o → place (next_list o buffer).answer ≤ max_sheet
-    found t e option.none a = omega arith
-    found t e (option.some m) a = hand_place m buffer (list_fits bs t e m a.whole)
+    found : (t : Table) → read_table bs ≡ Ok t → (o : Option (List ℕ)) → Answers (step t) (start t) list o → place (next_list o buffer).answer ≤ max_sheet
+    found t e None a = omega arith
+    found t e (Some m) a = hand_place m buffer (list_fits bs t e m a.whole)
 
-    by_list : (t : Table) → read_table bs ≡ accepted t → (j : Judged World Verdict) → judge (step t) 0 (start t) list ≡ j → place_of j ≤ max_list + 1
+    by_list : (t : Table) → read_table bs ≡ Ok t → (j : Judged World Verdict) → judge (step t) 0 (start t) list ≡ j → place_of j ≤ max_list + 1
         → place (next_judged j (next.next_of (step t) decisions (left t) (start t) list) buffer).answer ≤ max_sheet
     by_list t e (not_allowed i) q h = omega (arith, h)
     by_list t e (surplus i) q h = omega (arith, h)
@@ -177,8 +175,8 @@ next_place bs list buffer = go (read_table bs) refl
         found t e (next.next_of (step t) decisions (left t) (start t) list) (next_is t n.0 n.1 list (complete_told t list v q))
 
     go : (r : Read) → read_table bs ≡ r → place (next_table r list buffer).answer ≤ max_sheet
-    go (refused a) e = omega (arith, refused-place bs a e)
-    go (accepted t) e =
+    go (Err a) e = omega (arith, refused-place bs a e)
+    go (Ok t) e =
         let h = read-within bs t e in
         let j = judged_place t h.0 list 0 (start t) (start_good t h.0 h.1) in
         by_list t e (judge (step t) 0 (start t) list) refl (omega (arith, j, start_left t h.0, h.0.threads))

@@ -1,5 +1,5 @@
 -- Every byte of a sheet is the number that document 01 names, and not a remainder: the sheet with each count as it is. The words are in specs/Plain.antt.
-use Rattle.std.specs.Prelude.{◌≡◌, refl, List, [], ◌∷◌, ◌++◌, ℕ, zero, suc, ◌≤◌, ◌<◌, leb, length, get_or, take, drop}
+use Rattle.std.specs.Prelude.{◌≡◌, refl, List, [], ◌∷◌, ◌++◌, ℕ, zero, suc, ◌≤◌, ◌<◌, leb, length, get_or, take, drop, None, Option, Some, Ok}
 use Rattle.std.proofs.Common.{sym, ◌∙◌, ap, subst, arith, le-leb}
 use Rattle.std.proofs.lemmas.Bool.{false≢true}
 use Rattle.clocks.specs.Clock.{max_threads}
@@ -16,7 +16,7 @@ use Rattle.rules.specs.declared.world.World.{World}
 use Rattle.rules.specs.Ground.{flag, absent}
 use Rattle.rules.specs.Object.{new_entry, no_object}
 use Rattle.rules.specs.Sheet.{filled, each, byte, clock_bytes, state_byte, phase_byte, thread_bytes, form_byte, who_byte, rwlock_bytes, arc_bytes, cell_bytes, object_bytes, objects_bytes, sheet_of, sheet_length}
-use Rattle.rules.specs.Table.{Read, accepted, read_table}
+use Rattle.rules.specs.Table.{Read, read_table}
 use Rattle.rules.proofs.TableLaws.{by_test, read-within}
 use Rattle.rules.specs.Turn.{entry_in, start}
 use Rattle.rules.specs.Judge.{Verdict, Given, over, shown, judge_table, judge_of, step}
@@ -41,16 +41,16 @@ unfolding thread_bytes plain_thread
 thread_plain t l = ap (λ (n : ℕ). 0x80 ∷ state_byte t.state ∷ t.position ∷ phase_byte t.phase ∷ n ∷ clock_bytes t.clock ++ clock_bytes t.dependence) (byte_is t.last_answer l)
 
 -- the readers
-abbrev MaskLow : Locked → Type 0
-MaskLow locked.Free = Unit {0}
-MaskLow (locked.Read mask) = mask < 256
-MaskLow (locked.Write t) = Unit {0}
+abbrev MaskLow : Option Locked → Type 0
+MaskLow None = Unit {0}
+MaskLow (Some (locked.Read mask)) = mask < 256
+MaskLow (Some (locked.Write t)) = Unit {0}
 
-who_plain : (l : Locked) → MaskLow l → who_byte l ≡ plain_who l
+who_plain : (l : Option Locked) → MaskLow l → who_byte l ≡ plain_who l
 unfolding who_byte plain_who
-who_plain locked.Free h = refl
-who_plain (locked.Read mask) h = byte_is mask h
-who_plain (locked.Write t) h = refl
+who_plain None h = refl
+who_plain (Some (locked.Read mask)) h = byte_is mask h
+who_plain (Some (locked.Write t)) h = refl
 
 -- an object whose counts are below 256
 abbrev Low : ℕ → Entry → Type 0
@@ -94,13 +94,13 @@ threads_plain (suc n) ts h =
     let q = threads_plain n (drop 1 ts) (λ k. subst (λ (x : Thread). x.last_answer < 256) (sym (get_rest absent ts k)) (h (suc k))) in
     λ i. p i ++ q i
 
-mask_low : (n : ℕ) → n ≤ max_threads → (l : Locked) → Reading n l → MaskLow l
-mask_low n few locked.Free h = tt
-mask_low n few (locked.Read mask) h = omega (arith, h.1, pow_most n max_threads few)
-mask_low n few (locked.Write t) h = tt
+mask_low : (n : ℕ) → n ≤ max_threads → (l : Option Locked) → Reading n l → MaskLow l
+mask_low n few None h = tt
+mask_low n few (Some (locked.Read mask)) h = omega (arith, h.1, pow_most n max_threads few)
+mask_low n few (Some (locked.Write t)) h = tt
 
 -- in every world that the sheet of an accepted table shows
-pub sheet_plain : (bs list : List ℕ) (table : Table) (w : World) → read_table bs ≡ accepted table → Shown table list w → sheet_of table w ≡ plain_sheet table w
+pub sheet_plain : (bs list : List ℕ) (table : Table) (w : World) → read_table bs ≡ Ok table → Shown table list w → sheet_of table w ≡ plain_sheet table w
 unfolding sheet_of plain_sheet
 sheet_plain bs list table w a e =
     let n : ℕ = table.thread_count in
@@ -112,7 +112,7 @@ sheet_plain bs list table w a e =
     λ i. p i ++ q i
 
 -- so what the judge leaves in the lent buffer, where it writes a sheet
-pub judge_plain : (bs list buffer : List ℕ) (table : Table) (w : World) → read_table bs ≡ accepted table → Shown table list w → sheet_length table ≤ length buffer
+pub judge_plain : (bs list buffer : List ℕ) (table : Table) (w : World) → read_table bs ≡ Ok table → Shown table list w → sheet_length table ≤ length buffer
     → (judge_of bs list buffer).buffer ≡ over (plain_sheet table w) buffer
 unfolding judge_of judge_table shown
 judge_plain bs list buffer table w a e l =

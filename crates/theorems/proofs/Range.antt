@@ -1,5 +1,5 @@
 -- The lists of threads, of objects and of a clock's places keep their lengths. So a thread that acts is there, and its place of every clock is. The words are in specs/Range.antt.
-use Rattle.std.specs.Prelude.{◌≡◌, refl, List, ℕ, ◌<◌, length}
+use Rattle.std.specs.Prelude.{◌≡◌, refl, List, ℕ, ◌<◌, length, Ok}
 use Rattle.std.proofs.Common.{◌∙◌, length-set}
 use Rattle.std.proofs.lemmas.List.{length-map}
 use Rattle.clocks.specs.Clock.{max_threads, join_of, inc_of}
@@ -10,7 +10,7 @@ use Rattle.rules.specs.declared.table.Table.{Table}
 use Rattle.rules.specs.declared.world.World.{World}
 use Rattle.rules.specs.Limits.{max_objects}
 use Rattle.rules.specs.Object.{new_entry}
-use Rattle.rules.specs.Table.{accepted, read_table}
+use Rattle.rules.specs.Table.{read_table}
 use Rattle.rules.specs.TableLaws.{Within}
 use Rattle.rules.proofs.TableLaws.{read-within}
 use Rattle.rules.specs.Turn.{start, decide}
@@ -56,11 +56,11 @@ module _ (table : Table) (n : Within table) (w : World) (g : Good table w) (h : 
   each_there = decide-each table n w g There (λ t m v. Lengths v) Lengths h (λ t l. (turn t l.within table w h).0) (λ t q r. (turn t r.0 table w h).1)
 
 -- in every world that the sheet of an accepted table shows
-pub lengths : (bs list : List ℕ) (table : Table) (w : World) → read_table bs ≡ accepted table → Shown table list w → Lengths w
+pub lengths : (bs list : List ℕ) (table : Table) (w : World) → read_table bs ≡ Ok table → Shown table list w → Lengths w
 lengths bs list table w a e =
     let h = read-within bs table a in
     (shown_by table h.0 (λ u v. Lengths v) (λ u v d g l i. decide_whole table h.0 v g i d) h.1 (start_whole table (objects_there bs table a)) list w e).1
 
 -- before each effect of a further decision
-pub there : (bs list : List ℕ) (table : Table) (w : World) → read_table bs ≡ accepted table → Reached table list w → (d : ℕ) → Each There table w d
+pub there : (bs list : List ℕ) (table : Table) (w : World) → read_table bs ≡ Ok table → Reached table list w → (d : ℕ) → Each There table w d
 there bs list table w a e d = each_there table (read-within bs table a).0 w (reached_good bs list table w a e) (lengths bs list table w a (reached-shown table list w e)) d

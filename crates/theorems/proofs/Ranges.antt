@@ -1,12 +1,12 @@
 -- No run of an accepted table reads or writes out of range: threads, objects, operations, places of clocks and of queues are there wherever a decision
 -- takes one. The decision itself may name a thread that is not there: it reads an ended one, and is refused. The words are in specs/Ranges.antt.
-use Rattle.std.specs.Prelude.{◌≡◌, List, ℕ, ◌≤◌}
+use Rattle.std.specs.Prelude.{◌≡◌, List, ℕ, ◌≤◌, Ok}
 use Rattle.std.proofs.Common.{arith}
 use Rattle.clocks.specs.Clock.{max_threads}
 use Rattle.rules.specs.declared.table.Table.{Table}
 use Rattle.rules.specs.declared.world.World.{World}
 use Rattle.rules.proofs.TableLaws.{read-within}
-use Rattle.rules.specs.Table.{accepted, read_table}
+use Rattle.rules.specs.Table.{read_table}
 use Rattle.theorems.specs.Reached.{Shown}
 use Rattle.theorems.proofs.Each.{each_both}
 use Rattle.theorems.proofs.Named.{objects_there, ops_named}
@@ -35,7 +35,7 @@ fit_lasts table few =
     }
 
 -- every world that the sheet of an accepted table shows
-pub in_range : (bs list : List ℕ) (table : Table) (w : World) → read_table bs ≡ accepted table → Shown table list w → (d : ℕ) → InRange table list w d
+pub in_range : (bs list : List ℕ) (table : Table) (w : World) → read_table bs ≡ Ok table → Shown table list w → (d : ℕ) → InRange table list w d
 in_range bs list table w a e d =
     let n = (read-within bs table a).0 in
     let l = fit_lasts table n.threads in

@@ -1,5 +1,5 @@
 -- The worlds of a run: what holds of the first and is kept by each decision, the last one too, holds of every world that a sheet shows. The words are in specs/Reached.antt.
-use Rattle.std.specs.Prelude.{◌≡◌, refl, ℕ, suc, ◌+◌, ◌≤◌, ◌<◌}
+use Rattle.std.specs.Prelude.{◌≡◌, refl, ℕ, suc, ◌+◌, ◌≤◌, ◌<◌, Ok}
 use Rattle.std.proofs.Common.{sym, subst, arith}
 use mathlib.Core.List.{List, [], ◌∷◌}
 use Rattle.lists.specs.Judge.{Judged, not_allowed, surplus, unfinished, verdict, judge_end, judge_at, judge}
@@ -8,7 +8,7 @@ use Rattle.rules.specs.declared.world.World.{World}
 use Rattle.rules.specs.declared.world.Step.{Step}
 use Rattle.rules.specs.declared.world.Step.TheVariants.{Refused, Done, Wants}
 use Rattle.rules.specs.Limits.{max_list}
-use Rattle.rules.specs.Table.{accepted, read_table}
+use Rattle.rules.specs.Table.{read_table}
 use Rattle.rules.specs.TableLaws.{Within}
 use Rattle.rules.proofs.TableLaws.{read-within}
 use Rattle.rules.specs.Turn.{start, decide}
@@ -74,5 +74,5 @@ module _ (table : Table) (n : Within table) where
           go (verdict v) h s = subst (λ (x : World). (u : ℕ) × I u x × (u ≤ max_list)) s h
 
 -- of an accepted table, every world in which a decision is wanted is good
-pub reached_good : (bs list : List ℕ) (table : Table) (w : World) → read_table bs ≡ accepted table → Reached table list w → Good table w
+pub reached_good : (bs list : List ℕ) (table : Table) (w : World) → read_table bs ≡ Ok table → Reached table list w → Good table w
 reached_good bs list table w a e = let h = read-within bs table a in (run_by table h.0 (λ u v. Unit {0}) (λ u v d g l i. tt) h.1 tt list w e).1.0

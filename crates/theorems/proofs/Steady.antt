@@ -1,5 +1,5 @@
 -- What a turn of t keeps of all clocks, where they may have whatever it joins and counts, and nothing is asked of its own position and phase. The words are in specs/Steady.antt.
-use Rattle.std.specs.Prelude.{◌≡◌, Bool, ℕ}
+use Rattle.std.specs.Prelude.{◌≡◌, Bool, ℕ, None, Option}
 use Rattle.std.proofs.Math.Path.{refl}
 use mathlib.Core.List.{List}
 use Rattle.clocks.specs.Clock.{max_threads, zero_clock, risen, join_of, inc_of}
@@ -10,8 +10,6 @@ use Rattle.rules.specs.declared.object.Entry.{Entry}
 use Rattle.rules.specs.declared.mutex.Call.TheVariants as mutex-call
 use Rattle.rules.specs.declared.thread.Phase.{Phase}
 use Rattle.rules.specs.declared.thread.Thread.{Thread}
-use Rattle.rules.specs.declared.thread.Answered.{Answered}
-use Rattle.rules.specs.declared.thread.Answered.TheVariants.{Kept}
 use Rattle.rules.specs.declared.table.Call.{Call}
 use Rattle.rules.specs.declared.table.Call.TheVariants.{Mutex}
 use Rattle.rules.specs.declared.table.Op.{Op}
@@ -56,7 +54,7 @@ module _ (C D : Clock → Type 0) (M : ℕ → ℕ → Phase → Type 0) (E : Li
       let x = announced_one C D M t.0 f d (thread_at ts t) ((h.threads.1 t.0).0, (h.threads.1 t.0).1, free (thread_at ts t).position f) in put ts es _ h x.0 x.1
 
   -- one operation more is done
-  advances : (n : Answered) (ts : List Thread) (es : List Entry) → Holds ts es → Holds (advance t n ts) es
+  advances : (n : Option ℕ) (ts : List Thread) (es : List Entry) → Holds ts es → Holds (advance t n ts) es
   unfolding advance
   advances n ts es h = answering_by (λ (x : Thread). Holds (put_thread ts t (with_position x (risen 255 (thread_at ts t).position))) es) n (thread_at ts t) (λ m. same_put ts es _ refl refl h)
 
@@ -134,7 +132,7 @@ module _ (C D : Clock → Type 0) (M : ℕ → ℕ → Phase → Type 0) (E : Li
           wakes =
               λ op o.
               shows _
-              (place _ w.objects op.object _ (advances Kept _ w.objects (same_put w.threads w.objects (set_runnable (thread_in w t)) refl refl h))
+              (place _ w.objects op.object _ (advances None _ w.objects (same_put w.threads w.objects (set_runnable (thread_in w t)) refl refl h))
               (notify_put C D (entry_in w op.object) _ (h.objects op.object.0) (h.objects op.object.0).notify));
         }
 

@@ -1,5 +1,5 @@
 -- What an operation does to the threads is a list of touches. One law of them: what each touch keeps of every thread, every effect keeps. The words are in specs/Touches.antt.
-use Rattle.std.specs.Prelude.{◌≡◌, Bool, true, false, List, [], ◌∷◌, ℕ, ◌<◌, eqb, ltb, replicate}
+use Rattle.std.specs.Prelude.{◌≡◌, Bool, true, false, List, [], ◌∷◌, ℕ, ◌<◌, eqb, ltb, replicate, None, Option, Some}
 use Rattle.std.proofs.Math.Path.{refl}
 use Rattle.std.proofs.Common.{◌∙◌, length-set, ltb-true}
 use Rattle.clocks.specs.Clock.{max_threads, join_of}
@@ -10,8 +10,6 @@ use Rattle.rules.specs.declared.object.ObjectId.{ObjectId}
 use Rattle.rules.specs.declared.object.Entry.{Entry}
 use Rattle.rules.specs.declared.thread.State.TheVariants as state
 use Rattle.rules.specs.declared.thread.Thread.{Thread}
-use Rattle.rules.specs.declared.thread.Answered.{Answered}
-use Rattle.rules.specs.declared.thread.Answered.TheVariants.{Kept, Left}
 use Rattle.rules.specs.declared.thread.Change.{Change}
 use Rattle.rules.specs.declared.thread.Change.TheVariants.{Wake, Block, BlockWriters, BlockReceivers, Unpark}
 use Rattle.rules.specs.declared.table.Call.{Call}
@@ -107,6 +105,6 @@ unfolding effect
 keeps_position c t o e ts = touched-read t (λ x. x.position) (λ x d. refl) (doing c t o (thread_at ts t).clock e).touches ts
 
 -- the answer that an operation leaves changes the last answer alone
-pub answering_by : (P : Thread → Type 0) (n : Answered) (x : Thread) → ((m : ℕ) → P (with_answer x m)) → P (answering n x)
-answering_by P Kept x f = f x.last_answer
-answering_by P (Left m) x f = f m
+pub answering_by : (P : Thread → Type 0) (n : Option ℕ) (x : Thread) → ((m : ℕ) → P (with_answer x m)) → P (answering n x)
+answering_by P None x f = f x.last_answer
+answering_by P (Some m) x f = f m

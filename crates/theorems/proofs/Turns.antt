@@ -1,11 +1,11 @@
 -- The turn number: one more a decision at most, so at most `max_list`, and its type's end is 65,535.
-use Rattle.std.specs.Prelude.{◌≡◌, List, ℕ, suc, ◌+◌, ◌≤◌}
+use Rattle.std.specs.Prelude.{◌≡◌, List, ℕ, suc, ◌+◌, ◌≤◌, Ok}
 use Rattle.std.proofs.Common.{arith}
 use Rattle.clocks.specs.Clock.{risen}
 use Rattle.rules.specs.declared.table.Table.{Table}
 use Rattle.rules.specs.declared.world.World.{World}
 use Rattle.rules.specs.Limits.{max_list}
-use Rattle.rules.specs.Table.{accepted, read_table}
+use Rattle.rules.specs.Table.{read_table}
 use Rattle.rules.specs.TableLaws.{Within}
 use Rattle.rules.proofs.TableLaws.{read-within}
 use Rattle.rules.specs.Turn.{start, spurious, decide}
@@ -42,12 +42,12 @@ module _ (table : Table) (n : Within table) (u : ℕ) (w : World) (g : Good tabl
       (λ t q r. record { goes = λ op o. omega (arith, few); wakes = λ op o. omega (arith, few) })
 
 -- in every world that the sheet of an accepted table shows
-pub turn_few : (bs list : List ℕ) (table : Table) (w : World) → read_table bs ≡ accepted table → Shown table list w → w.turn ≤ max_list
+pub turn_few : (bs list : List ℕ) (table : Table) (w : World) → read_table bs ≡ Ok table → Shown table list w → w.turn ≤ max_list
 turn_few bs list table w a e =
     let h = read-within bs table a in
     let r = shown_by table h.0 Few (λ u v d g l i. decide_few table h.0 u v g i d) h.1 (start_few table) list w e in
     omega (arith, r.1, r.2)
 
 -- so it rises by one
-pub turn_rises : (bs list : List ℕ) (table : Table) (w : World) → read_table bs ≡ accepted table → Shown table list w → risen 65535 w.turn ≡ w.turn + 1
+pub turn_rises : (bs list : List ℕ) (table : Table) (w : World) → read_table bs ≡ Ok table → Shown table list w → risen 65535 w.turn ≡ w.turn + 1
 turn_rises bs list table w a e = omega (arith, turn_few bs list table w a e)

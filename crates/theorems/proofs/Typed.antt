@@ -1,13 +1,11 @@
 -- Every operation of an accepted table is on an object of its kind, and a wait's mutex is one. The words are in specs/Typed.antt.
-use Rattle.std.specs.Prelude.{◌≡◌, refl, true, List, ◌∷◌, [], ℕ, ◌+◌, ◌-◌, ◌*◌, ◌<◌, eqb, ltb, length, get_or, set, drop}
+use Rattle.std.specs.Prelude.{◌≡◌, refl, true, List, ◌∷◌, [], ℕ, ◌+◌, ◌-◌, ◌*◌, ◌<◌, eqb, ltb, length, get_or, set, drop, None, Option, Some, Err, Ok}
 use Rattle.std.proofs.Common.{sym, ◌∙◌, ap, arith, length-drop, get_or-set_same, get_or-set_other, get_or-take, get_or-drop, ltb-true, ltb-false, eqb-true}
 use Rattle.std.proofs.lemmas.Bool.{eqb-false}
 use Rattle.clocks.specs.Clock.{max_threads}
 use Rattle.rules.specs.declared.object.ObjectId.{ObjectId}
 use Rattle.rules.specs.declared.object.Kind.{Kind}
 use Rattle.rules.specs.declared.object.Kind.TheVariants as kind
-use Rattle.rules.specs.declared.condvar.Wait.{Wait}
-use Rattle.rules.specs.declared.condvar.Wait.TheVariants.{On, Nowhere}
 use Rattle.rules.specs.declared.answer.Answer.{Answer}
 use Rattle.rules.specs.declared.answer.Answer.TheVariants.{BadRecord, TooMany, BadObject}
 use Rattle.rules.specs.declared.table.Made.{Made}
@@ -16,7 +14,7 @@ use Rattle.rules.specs.declared.table.Table.{Table}
 use Rattle.rules.specs.Limits.{max_objects, max_operations}
 use Rattle.rules.specs.Object.{no_object}
 use Rattle.rules.specs.Effect.{wait_of}
-use Rattle.rules.specs.Table.{Read, refused, accepted, kind_of, kind_number, is_kind, mutex_fine, objects_fine, no_op, with_object, with_thread, last_count, with_op, empty_table, read_table, ops_of}
+use Rattle.rules.specs.Table.{Read, kind_of, kind_number, is_kind, mutex_fine, objects_fine, no_op, with_object, with_thread, last_count, with_op, empty_table, read_table, ops_of}
 use Rattle.rules.proofs.TableLaws.{split, empty-within, op-within, object_within, thread-within, ops_counted, read_by}
 use Rattle.theorems.proofs.All.{all_same}
 use Rattle.theorems.proofs.Named.{both}
@@ -80,9 +78,9 @@ op_fits t op some l f h =
 
 -- what an accepted table has
 abbrev Accepts : Read → Type 0
-Accepts r = (table : Table) → r ≡ accepted table → Fits table
+Accepts r = (table : Table) → r ≡ Ok table → Fits table
 
-never : (a : Answer) → Accepts (refused a)
+never : (a : Answer) → Accepts (Err a)
 never a table e = let q : ◌≡◌ {A = ℕ} 0 1 = cc in absurd (omega (arith, q))
 
 pub read_fits : (bs : List ℕ) → Accepts (read_table bs)
@@ -108,16 +106,16 @@ kind_is : (ms : List Made) (o : ObjectId) (k : Kind) → is_kind ms o k ≡ true
 unfolding is_kind
 kind_is ms o k e = sym (kind_back (get_or ms o.0 no_object).kind) ∙ ap kind_at (eqb-true (kind_number (get_or ms o.0 no_object).kind) (kind_number k) e) ∙ kind_back k
 
-mutex_is : (ms : List Made) (m : Wait) → mutex_fine ms m ≡ true → WaitsOnMutex ms m
-mutex_is ms Nowhere e = tt
-mutex_is ms (On m) e = kind_is ms m kind.Mutex e
+mutex_is : (ms : List Made) (m : Option ObjectId) → mutex_fine ms m ≡ true → WaitsOnMutex ms m
+mutex_is ms None e = tt
+mutex_is ms (Some m) e = kind_is ms m kind.Mutex e
 
 on_kind : (ms : List Made) (op : Op) → objects_fine ms op ≡ true → OnKind ms op
 unfolding objects_fine
 on_kind ms op e = let h = both (is_kind ms op.object (kind_of op.call)) (mutex_fine ms (wait_of op.call)) e in (kind_is ms op.object (kind_of op.call) h.0, mutex_is ms (wait_of op.call) h.1)
 
 -- of every operation that is left to a thread from a position on, the first
-pub ops_typed : (bs : List ℕ) (table : Table) → read_table bs ≡ accepted table → (t q : ℕ) → 0 < length (drop q (ops_of table t)) → OnKind table.objects (get_or (drop q (ops_of table t)) 0 no_op)
+pub ops_typed : (bs : List ℕ) (table : Table) → read_table bs ≡ Ok table → (t q : ℕ) → 0 < length (drop q (ops_of table t)) → OnKind table.objects (get_or (drop q (ops_of table t)) 0 no_op)
 unfolding ops_of
 ops_typed bs table a t q l =
     let h = read_fits bs table a in

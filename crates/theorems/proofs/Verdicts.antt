@@ -1,23 +1,19 @@
 -- What a verdict tells of the world that it shows. Clean: all have ended and every Arc and Channel count is 0. Leak: all have ended, and the object is the
 -- first whose count is not 0. Deadlock: the thread is the lowest that has not ended, and nobody is runnable. Race, misuse, no room: the position is the thread's. The words are in specs/Verdicts.antt.
-use Rattle.std.specs.Prelude.{◌≡◌, refl, true, false, List, [], ◌∷◌, ℕ, suc, eqb, get_or, drop}
+use Rattle.std.specs.Prelude.{◌≡◌, refl, true, false, List, [], ◌∷◌, ℕ, suc, eqb, get_or, drop, None, Option, Some, Err, Ok}
+use Rattle.rules.specs.declared.object.ObjectId.{ObjectId}
 use Rattle.std.proofs.Common.{◌∙◌, ap, subst, arith}
 use Rattle.clocks.specs.declared.thread.ThreadId.{ThreadId}
 use Rattle.lists.specs.Judge.{verdict, judge_end, judge_at, judge}
-use Rattle.rules.specs.declared.object.Ending.{Ending}
-use Rattle.rules.specs.declared.object.Ending.TheVariants as ending
-use Rattle.rules.specs.declared.condvar.Wait.{Wait}
-use Rattle.rules.specs.declared.condvar.Wait.TheVariants.{On, Nowhere}
+use Rattle.rules.specs.Ground.{Ending}
+use Rattle.rules.specs.declared.object.Failure.TheVariants as failure
 use Rattle.rules.specs.declared.thread.Phase.{Phase}
 use Rattle.rules.specs.declared.thread.Phase.TheVariants.{Nothing, Announced, Parked, Retaking}
-use Rattle.rules.specs.declared.thread.Answered.{Answered}
 use Rattle.rules.specs.declared.table.Op.{Op}
 use Rattle.rules.specs.declared.table.Table.{Table}
 use Rattle.rules.specs.declared.answer.Answer.{Answer}
 use Rattle.rules.specs.declared.answer.Answer.TheVariants as answer
 use Rattle.rules.specs.declared.answer.Spot.{Spot}
-use Rattle.rules.specs.declared.world.Asked.{Asked}
-use Rattle.rules.specs.declared.world.Asked.TheVariants as asked
 use Rattle.rules.specs.declared.world.World.{World}
 use Rattle.rules.specs.declared.world.Step.{Step}
 use Rattle.rules.specs.declared.world.Step.TheVariants.{Refused, Done, Wants}
@@ -87,10 +83,10 @@ after_means w =
 -- a failing step
 ending_means : (e : Ending) (s : Spot) (shown : World) (next : Decided) → Stood s shown → MeansAll next → MeansAll (ending_of e s shown next)
 unfolding ending_of
-ending_means ending.Fine s shown next h n = n
-ending_means ending.Misuse s shown next h n = h
-ending_means ending.NoRoom s shown next h n = h
-ending_means (ending.Race o) s shown next h n = h
+ending_means (Ok ok) s shown next h n = n
+ending_means (Err failure.Misuse) s shown next h n = h
+ending_means (Err failure.NoRoom) s shown next h n = h
+ending_means (Err (failure.Race o)) s shown next h n = h
 
 -- a turn
 go_means : (t : ThreadId) (ops : List Op) (w : World) → MeansAll (go_on t ops w)
@@ -99,10 +95,10 @@ go_means t [] w = after_means _
 go_means t (op ∷ ops) w =
     by_test MeansAll (is_free op.call) (λ f. ending_means _ (spot t op w) w _ refl (go_means t ops _)) (λ f. by_test MeansAll (asks op.call (entry_in w op.object)) (λ a. tt) (λ a. after_means _))
 
-then_means : (m : Wait) (t : ThreadId) (n : Answered) (ops : List Op) (w : World) → MeansAll (thereafter m t n ops w)
+then_means : (m : Option ObjectId) (t : ThreadId) (n : Option ℕ) (ops : List Op) (w : World) → MeansAll (thereafter m t n ops w)
 unfolding thereafter
-then_means Nowhere t n ops w = go_means t ops _
-then_means (On m) t n ops w = after_means _
+then_means None t n ops w = go_means t ops _
+then_means (Some m) t n ops w = after_means _
 
 operation_means : (t : ThreadId) (op : Op) (ops : List Op) (w : World) → MeansAll (operation t op ops w)
 unfolding operation
@@ -116,11 +112,11 @@ turn_means Parked t ops w = after_means _
 turn_means (Retaking p) t ops w = operation_means t _ (drop 1 ops) w
 
 -- a decision
-decided_means : (a : Asked) (table : Table) (w : World) (d : ℕ) → MeansAll (decide_at a table w d)
+decided_means : (a : Option ThreadId) (table : Table) (w : World) (d : ℕ) → MeansAll (decide_at a table w d)
 unfolding decide_at begin question
-decided_means asked.Nobody table w d =
+decided_means None table w d =
     let t : ThreadId = record { 0 = d } in by_test MeansAll (is_runnable (thread_in w t).state) (λ r. turn_means (thread_in w t).phase t (ops_left table w t) w) (λ r. tt)
-decided_means (asked.Thread t) table w d = by_test MeansAll (eqb d 0) (λ z. after_means _) (λ z. by_test MeansAll (eqb d 1) (λ o. after_means _) (λ o. tt))
+decided_means (Some t) table w d = by_test MeansAll (eqb d 0) (λ z. after_means _) (λ z. by_test MeansAll (eqb d 1) (λ o. after_means _) (λ o. tt))
 
 decide_means : (table : Table) (w : World) (d : ℕ) → MeansAll (decide table w d)
 unfolding decide

@@ -7,10 +7,9 @@
 --     fault_met          a list that the judge answers with 0 to 5, so with any fault, is given
 --     never_short        25 is never answered
 -- The words are in specs/Walked.antt.
-use Rattle.std.specs.Prelude.{◌≡◌, Bool, true, false, ℕ, suc, ◌≤◌, ◌<◌, leb, length, take, drop}
+use Rattle.std.specs.Prelude.{◌≡◌, Bool, true, false, ℕ, suc, ◌≤◌, ◌<◌, leb, length, take, drop, Ok, None, Option, Some}
 use Rattle.std.proofs.Math.Path.{refl, ap, subst}
 use Rattle.std.proofs.Common.{sym, ◌∙◌, inl, inr, arith, take_at, le-leb, leb-true}
-use Rattle.std.proofs.Math.Option.{Option, none, some}
 use mathlib.Core.List.{List, [], ◌∷◌}
 use Rattle.std.proofs.Math.Dec.{T}
 use Rattle.lists.specs.Rules as lists
@@ -25,7 +24,7 @@ use Rattle.rules.specs.declared.table.Table.{Table}
 use Rattle.rules.specs.declared.world.World.{World}
 use Rattle.rules.specs.Limits.{max_list}
 use Rattle.rules.specs.Answer.{numbers_of}
-use Rattle.rules.specs.Table.{Read, accepted, read_table}
+use Rattle.rules.specs.Table.{Read, read_table}
 use Rattle.rules.specs.TableLaws.{Within}
 use Rattle.rules.proofs.TableLaws.{read-within}
 use Rattle.rules.specs.Turn.{start}
@@ -70,7 +69,7 @@ hands : (l buffer : List ℕ) → length l ≤ length buffer → Handed (hand_ov
 unfolding hand_over
 hands l buffer h = rw (hand_over, le-leb (length l) (length buffer) h) (refl, take_at l (drop (length l) buffer) (length l) refl)
 
-module _ (bs : List ℕ) (table : Table) (e : read_table bs ≡ accepted table) where
+module _ (bs : List ℕ) (table : Table) (e : read_table bs ≡ Ok table) where
   -- what the two calls find
   abbrev found_first : List ℕ
   found_first = next.first_of (step table) decisions (left table) (start table)
@@ -133,7 +132,7 @@ module _ (bs : List ℕ) (table : Table) (e : read_table bs ≡ accepted table) 
     unfolding judge_of judge_table numbers_of
     fault_met ls w list sheet h = (walk_gives ls w).all list (go (leb (sheet_length table) (length sheet)) refl)
       where
-        told : number (judge_table (accepted table) list sheet) ≤ 5
+        told : number (judge_table (Ok table) list sheet) ≤ 5
         told = subst (λ (r : Read). number (judge_table r list sheet) ≤ 5) e h
 
         go : (b : Bool) → leb (sheet_length table) (length sheet) ≡ b → Complete table list
@@ -154,8 +153,8 @@ module _ (bs : List ℕ) (table : Table) (e : read_table bs ≡ accepted table) 
           omega (arith, q, eight)
 
       found : (o : Option (List ℕ)) → lists.Answers (step table) (start table) list o → number (next_list o buffer) ≡ 25 → ⊥
-      found none a q = omega (arith, q)
-      found (some m) a q = hand m a.whole q
+      found None a q = omega (arith, q)
+      found (Some m) a q = hand m a.whole q
 
       judged : (j : Judged World Verdict) → judge (step table) 0 (start table) list ≡ j → number (next_judged j (found_next list) buffer) ≡ 25 → ⊥
       judged (not_allowed i) p q = omega (arith, q)

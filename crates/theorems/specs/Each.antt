@@ -1,6 +1,6 @@
 -- A decision, an effect at a time: what holds before each effect, and what the decision leaves. The laws are in proofs/Each.antt.
 use Rattle.std.proofs.Math.Path.{◌≡◌}
-use Rattle.std.specs.Prelude.{true, ℕ, ◌<◌, drop}
+use Rattle.std.specs.Prelude.{true, ℕ, ◌<◌, drop, None, Option, Some, Ok}
 use mathlib.Core.List.{List, [], ◌∷◌}
 use Rattle.std.proofs.Math.ListN.{get_or}
 use Rattle.clocks.specs.Clock.{max_threads, risen}
@@ -10,9 +10,7 @@ use Rattle.rules.specs.declared.access.Access.{Access}
 use Rattle.rules.specs.declared.object.ObjectId.{ObjectId}
 use Rattle.rules.specs.declared.object.Operation.{Operation}
 use Rattle.rules.specs.declared.object.Entry.{Entry}
-use Rattle.rules.specs.declared.object.Ending.TheVariants as ending
 use Rattle.rules.specs.declared.mutex.Call.TheVariants as mutex-call
-use Rattle.rules.specs.declared.condvar.Wait.TheVariants.{On, Nowhere}
 use Rattle.rules.specs.declared.thread.Phase.{Phase}
 use Rattle.rules.specs.declared.thread.Phase.TheVariants.{Nothing, Announced, Parked, Retaking}
 use Rattle.rules.specs.declared.thread.Thread.{Thread}
@@ -20,8 +18,6 @@ use Rattle.rules.specs.declared.table.Call.{Call}
 use Rattle.rules.specs.declared.table.Call.TheVariants.{Mutex}
 use Rattle.rules.specs.declared.table.Op.{Op}
 use Rattle.rules.specs.declared.table.Table.{Table}
-use Rattle.rules.specs.declared.world.Asked.{Asked}
-use Rattle.rules.specs.declared.world.Asked.TheVariants as asked
 use Rattle.rules.specs.declared.world.World.{World}
 use Rattle.rules.specs.Ground.{put_thread, with_phase, with_dependence, is_runnable}
 use Rattle.rules.specs.Table.{no_op}
@@ -76,11 +72,11 @@ Takes (Retaking p) ops op = op ≡ retaking p
 
 -- an operation that needs no announcement goes well
 abbrev pub Well : ThreadId → Op → World → Type 0
-Well t op w = (effect op.call t op.object (entry_in w op.object) w.threads).ending ≡ ending.Fine
+Well t op w = (effect op.call t op.object (entry_in w op.object) w.threads).ending ≡ Ok tt
 
 -- an announced one does
 abbrev pub Succeeds : ThreadId → Op → World → Type 0
-Succeeds t op w = (operated t op w).ending ≡ ending.Fine
+Succeeds t op w = (operated t op w).ending ≡ Ok tt
 
 -- What holds before each effect of a decision: `Q` of the thread, the operation, its object and the threads.
 module _ (Q : ThreadId → Call → Entry → List Thread → Type 0) where
@@ -91,8 +87,8 @@ module _ (Q : ThreadId → Call → Entry → List Thread → Type 0) where
 
   -- an announced operation, those after it, and a wait's release of its mutex
   abbrev pub OnOperation : ThreadId → Op → List Op → World → Type 0
-  OnOperation t op ops w = Q t op.call (recorded t op w) (dependent t op w) × (wait_of op.call ≡ Nowhere → Succeeds t op w → OnGo t ops (further t op w))
-      × ((m : ObjectId) → wait_of op.call ≡ On m → Succeeds t op w → Q t (Mutex mutex-call.ReleaseLock) (entry_in (in_effect t op w) m) (in_effect t op w).threads)
+  OnOperation t op ops w = Q t op.call (recorded t op w) (dependent t op w) × (wait_of op.call ≡ None → Succeeds t op w → OnGo t ops (further t op w))
+      × ((m : ObjectId) → wait_of op.call ≡ Some m → Succeeds t op w → Q t (Mutex mutex-call.ReleaseLock) (entry_in (in_effect t op w) m) (in_effect t op w).threads)
 
   -- a turn, by the thread's phase
   abbrev pub OnTurn : Phase → ThreadId → List Op → World → Type 0
@@ -102,10 +98,10 @@ module _ (Q : ThreadId → Call → Entry → List Thread → Type 0) where
   OnTurn (Retaking p) t ops w = OnOperation t (retaking p) (drop 1 ops) w
 
   -- a decision that answers a question has no effect
-  abbrev pub OnAsked : Asked → Table → World → ℕ → Type 0
-  OnAsked asked.Nobody table w d =
+  abbrev pub OnAsked : Option ThreadId → Table → World → ℕ → Type 0
+  OnAsked None table w d =
       let t : ThreadId = record { 0 = d } in is_runnable (thread_in w t).state ≡ true → OnTurn (thread_in w t).phase t (ops_left table w t) w
-  OnAsked (asked.Thread t) table w d = Unit {0}
+  OnAsked (Some t) table w d = Unit {0}
 
   -- the decision d
   abbrev pub Each : Table → World → ℕ → Type 0
@@ -115,7 +111,7 @@ module _ (Q : ThreadId → Call → Entry → List Thread → Type 0) where
 pub record Passes (t : ThreadId) (Q : ThreadId → Call → Entry → List Thread → Type 0) (I : List Op → World → Type 0) (J : World → Type 0) : Type 0 where
   pub sees : (ops : List Op) (w : World) (op : Op) → is_free op.call ≡ true → I (op ∷ ops) w → Q t op.call (entry_in w op.object) w.threads
   pub shows : (ops : List Op) (w : World) → I ops w → J w
-  pub asks : (ops : List Op) (w : World) (op : Op) → asks op.call (entry_in w op.object) ≡ true → I (op ∷ ops) w → J (with_asked w (asked.Thread t))
+  pub asks : (ops : List Op) (w : World) (op : Op) → asks op.call (entry_in w op.object) ≡ true → I (op ∷ ops) w → J (with_asked w (Some t))
   pub ends : (w : World) → I [] w → J (with_threads w (ended t w.threads))
   pub announces : (ops : List Op) (w : World) (op : Op) → I (op ∷ ops) w → J (with_threads w (announce_op t op (entry_in w op.object) w.threads))
   pub goes : (ops : List Op) (w : World) (op : Op) → is_free op.call ≡ true → Well t op w → I (op ∷ ops) w → I ops (onward t op w)
@@ -125,19 +121,19 @@ pub record Begins (table : Table) (w : World) (t : ThreadId) (Q : ThreadId → C
   pub passes : Passes t Q I J
   pub nothing : (thread_in w t).phase ≡ Nothing → I (ops_left table w t) (with_turn w (risen 65535 w.turn))
   pub effects : (op : Op) → Takes (thread_in w t).phase (ops_left table w t) op → Q t op.call (recorded t op w) (dependent t op w)
-  pub releases : (op : Op) (m : ObjectId) → Takes (thread_in w t).phase (ops_left table w t) op → wait_of op.call ≡ On m → Succeeds t op w
+  pub releases : (op : Op) (m : ObjectId) → Takes (thread_in w t).phase (ops_left table w t) op → wait_of op.call ≡ Some m → Succeeds t op w
       → Q t (Mutex mutex-call.ReleaseLock) (entry_in (in_effect t op w) m) (in_effect t op w).threads
-  pub operates : (op first : Op) (ops : List Op) → Takes (thread_in w t).phase (ops_left table w t) op → ops_left table w t ≡ first ∷ ops → wait_of op.call ≡ Nowhere → Succeeds t op w → I ops (further t op w)
-  pub waits : (op : Op) (a : Operation) (m : ObjectId) → op ≡ get_or (ops_left table w t) 0 no_op → (thread_in w t).phase ≡ Announced a → wait_of op.call ≡ On m → Succeeds t op w → J (waiting t m (in_effect t op w))
+  pub operates : (op first : Op) (ops : List Op) → Takes (thread_in w t).phase (ops_left table w t) op → ops_left table w t ≡ first ∷ ops → wait_of op.call ≡ None → Succeeds t op w → I ops (further t op w)
+  pub waits : (op : Op) (a : Operation) (m : ObjectId) → op ≡ get_or (ops_left table w t) 0 no_op → (thread_in w t).phase ≡ Announced a → wait_of op.call ≡ Some m → Succeeds t op w → J (waiting t m (in_effect t op w))
   pub retakes : (m : ObjectId) → m ≡ mutex_of (wait_of (get_or (ops_left table w t) 0 no_op).call) → (thread_in w t).phase ≡ Parked → J (with_threads (with_turn w (risen 65535 w.turn)) (retake t m (entry_in w m) w.threads))
 
 -- a thread that a decision names and that may act
 pub record Acts (w : World) (t : ThreadId) : Type 0 where
   pub within : t.0 < max_threads
   pub runs : is_runnable (thread_in w t).state ≡ true
-  pub nobody : w.asked ≡ asked.Nobody
+  pub nobody : w.asked ≡ None
 
 -- what the answer to a question leaves
 pub record Answers (table : Table) (w : World) (t : ThreadId) (J : World → Type 0) : Type 0 where
-  pub goes : (op : Op) → op ≡ get_or (ops_left table w t) 0 no_op → J (with_threads (with_asked w asked.Nobody) (announce_op t op (entry_in w op.object) w.threads))
-  pub wakes : (op : Op) → op ≡ get_or (ops_left table w t) 0 no_op → J (spurious t op (with_asked w asked.Nobody))
+  pub goes : (op : Op) → op ≡ get_or (ops_left table w t) 0 no_op → J (with_threads (with_asked w None) (announce_op t op (entry_in w op.object) w.threads))
+  pub wakes : (op : Op) → op ≡ get_or (ops_left table w t) 0 no_op → J (spurious t op (with_asked w None))

@@ -1,5 +1,6 @@
 -- Each decision that wants another leaves a good world, with a smaller falling number. The laws are in proofs/Falling.antt.
-use Rattle.std.specs.Prelude.{◌≡◌, get_or}
+use Rattle.std.specs.Prelude.{◌≡◌, get_or, None, Option, Some}
+use Rattle.clocks.specs.declared.thread.ThreadId.{ThreadId}
 use Rattle.std.proofs.Math.Bool.{true, false}
 use mathlib.Core.List.{List}
 use Prim.Native.Nat.{ℕ, ◌<◌}
@@ -8,8 +9,6 @@ use Rattle.clocks.specs.Clock.{max_threads}
 use Rattle.rules.specs.declared.thread.Phase.TheVariants as phase
 use Rattle.rules.specs.declared.thread.Thread.{Thread}
 use Rattle.rules.specs.declared.table.Table.{Table}
-use Rattle.rules.specs.declared.world.Asked.{Asked}
-use Rattle.rules.specs.declared.world.Asked.TheVariants as asked
 use Rattle.rules.specs.declared.world.Step.{Step}
 use Rattle.rules.specs.declared.world.Step.TheVariants.{Refused, Done, Wants}
 use Rattle.rules.specs.declared.world.World.{World}
@@ -23,9 +22,9 @@ use Rattle.theorems.specs.Shape.{shape, shapes, Tidy}
 use Rattle.theorems.specs.Stage.{ops_at, Sounds}
 
 -- who may decide: a runnable thread, or the one that is asked, which stands before a wait that might end spuriously
-abbrev pub Ready : Table → Asked → List Thread → Type 0
-Ready table asked.Nobody ts = any_runnable ts ≡ true
-Ready table (asked.Thread t) ts = (t.0 < max_threads) × (shape (thread_at ts t) ≡ record { position = (thread_at ts t).position; phase = phase.Nothing; ended = false })
+abbrev pub Ready : Table → Option ThreadId → List Thread → Type 0
+Ready table None ts = any_runnable ts ≡ true
+Ready table (Some t) ts = (t.0 < max_threads) × (shape (thread_at ts t) ≡ record { position = (thread_at ts t).position; phase = phase.Nothing; ended = false })
     × (0 < length (ops_at table t.0 (shape (thread_at ts t)))) × (waits_for (wait_of (get_or (ops_at table t.0 (shape (thread_at ts t))) 0 no_op).call) ≡ 1)
 
 -- a world that a run of an accepted table may reach, and in which a decision is wanted

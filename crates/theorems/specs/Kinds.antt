@@ -1,5 +1,5 @@
 -- An object keeps the kind that the table gave it, and what is announced, waited for, retaken or asked is on an object of its kind. The laws are in proofs/KindLaws.antt.
-use Rattle.std.specs.Prelude.{◌≡◌, true, List, ℕ, get_or}
+use Rattle.std.specs.Prelude.{◌≡◌, true, List, ℕ, get_or, None, Option, Some}
 use Rattle.clocks.specs.declared.thread.ThreadId.{ThreadId}
 use Rattle.rules.specs.declared.object.Entry.{Entry}
 use Rattle.rules.specs.declared.object.Kind.TheVariants as kind
@@ -12,8 +12,6 @@ use Rattle.rules.specs.declared.table.Call.TheVariants.{Notify}
 use Rattle.rules.specs.declared.table.Made.{Made}
 use Rattle.rules.specs.declared.table.Op.{Op}
 use Rattle.rules.specs.declared.table.Table.{Table}
-use Rattle.rules.specs.declared.world.Asked.{Asked}
-use Rattle.rules.specs.declared.world.Asked.TheVariants as asked
 use Rattle.rules.specs.declared.world.World.{World}
 use Rattle.rules.specs.Object.{no_object}
 use Rattle.rules.specs.Notify as notify
@@ -33,9 +31,9 @@ KindIn Parked ops w = (entry_in w (mutex_of (wait_of (get_or ops 0 no_op).call))
 KindIn (Retaking p) ops w = (entry_in w p.obj).kind ≡ kind.Mutex
 
 -- who is asked stands before a Notify wait that may wake spuriously
-abbrev pub AskedWait : Table → Asked → World → Type 0
-AskedWait table asked.Nobody w = Unit {0}
-AskedWait table (asked.Thread t) w =
+abbrev pub AskedWait : Table → Option ThreadId → World → Type 0
+AskedWait table None w = Unit {0}
+AskedWait table (Some t) w =
     let op : Op = get_or (ops_left table w t) 0 no_op in (op.call ≡ Notify notify-call.Wait) × ((entry_in w op.object).kind ≡ kind.Notify) × (notify.might_spur (entry_in w op.object).notify ≡ true)
 
 -- before an effect: the object is of the operation's kind

@@ -1,5 +1,5 @@
 -- Every byte of a sheet is the number that document 01 names, and not a remainder: the sheet with each count as it is. The laws are in proofs/Plain.antt.
-use Rattle.std.specs.Prelude.{List, [], ◌∷◌, ◌++◌, ℕ, get_or, take, drop}
+use Rattle.std.specs.Prelude.{List, [], ◌∷◌, ◌++◌, ℕ, get_or, take, drop, None, Option, Some}
 use Rattle.rules.specs.declared.object.Kind.{Kind}
 use Rattle.rules.specs.declared.object.Kind.TheVariants as kind
 use Rattle.rules.specs.declared.object.Entry.{Entry}
@@ -18,10 +18,10 @@ unfoldable pub plain_thread : Thread → List ℕ
 plain_thread t = 0x80 ∷ state_byte t.state ∷ t.position ∷ phase_byte t.phase ∷ t.last_answer ∷ clock_bytes t.clock ++ clock_bytes t.dependence
 
 -- "reader mask, writer, or 0 when free"
-unfoldable pub plain_who : Locked → ℕ
-plain_who locked.Free = 0
-plain_who (locked.Read mask) = mask
-plain_who (locked.Write t) = t.0
+unfoldable pub plain_who : Option Locked → ℕ
+plain_who None = 0
+plain_who (Some (locked.Read mask)) = mask
+plain_who (Some (locked.Write t)) = t.0
 
 -- an object's record
 unfoldable pub plain_object : Kind → Entry → List ℕ

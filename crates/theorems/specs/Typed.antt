@@ -1,8 +1,7 @@
 -- Every operation of an accepted table is on an object of its kind, and a wait's mutex is one. The laws are in proofs/Typed.antt.
-use Rattle.std.specs.Prelude.{◌≡◌, true, List, ℕ, ◌+◌, ◌*◌, ◌≤◌, ◌<◌, get_or}
+use Rattle.std.specs.Prelude.{◌≡◌, true, List, ℕ, ◌+◌, ◌*◌, ◌≤◌, ◌<◌, get_or, None, Option, Some}
+use Rattle.rules.specs.declared.object.ObjectId.{ObjectId}
 use Rattle.rules.specs.declared.object.Kind.TheVariants as kind
-use Rattle.rules.specs.declared.condvar.Wait.{Wait}
-use Rattle.rules.specs.declared.condvar.Wait.TheVariants.{On, Nowhere}
 use Rattle.rules.specs.declared.table.Made.{Made}
 use Rattle.rules.specs.declared.table.Op.{Op}
 use Rattle.rules.specs.declared.table.Table.{Table}
@@ -19,9 +18,9 @@ pub record Fits (t : Table) : Type 0 where
   pub fine : (j i : ℕ) → i < get_or t.counts j 0 → objects_fine t.objects (get_or t.ops (max_operations * j + i) no_op) ≡ true
 
 -- the mutex of a wait is a mutex
-abbrev pub WaitsOnMutex : List Made → Wait → Type 0
-WaitsOnMutex ms Nowhere = Unit {0}
-WaitsOnMutex ms (On m) = (get_or ms m.0 no_object).kind ≡ kind.Mutex
+abbrev pub WaitsOnMutex : List Made → Option ObjectId → Type 0
+WaitsOnMutex ms None = Unit {0}
+WaitsOnMutex ms (Some m) = (get_or ms m.0 no_object).kind ≡ kind.Mutex
 
 -- an operation is on an object of its kind
 abbrev pub OnKind : List Made → Op → Type 0

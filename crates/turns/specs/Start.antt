@@ -1,8 +1,9 @@
 -- The start, and what a run shows, as the code makes them.
-use Rattle.std.specs.Prelude.{◌≡◌, refl, Bool, true, false, List, map, ℕ, zero, suc, ◌+◌, ◌≤◌, ◌<◌, length, get_or, replicate}
+use Rattle.std.specs.Prelude.{◌≡◌, refl, Bool, true, false, Result, Ok, Err, List, map, ℕ, zero, suc, ◌+◌, ◌≤◌, ◌<◌, length, get_or, replicate}
 use Rattle.std.proofs.Math.Path.{sym}
 use Rattle.std.proofs.Common.{◌∙◌, ap, arith, ext_get_or}
 use Rattle.std.proofs.lemmas.Bool.{false≢true}
+use Rattle.std.specs.Option.{unwrap_or}
 use Rattle.std.proofs.lemmas.List.{length-replicate, length-map, set-get_or}
 use Rattle.std.proofs.Math.ListN.{get_or-map}
 use Rattle.std.proofs.lemmas.List.Edits.{sets}
@@ -14,21 +15,17 @@ use Rattle.rules.specs.declared.object.Kind.{Kind}
 use Rattle.rules.specs.declared.object.Kind.TheVariants as kind
 use Rattle.rules.specs.declared.table.Made.{Made}
 use Rattle.rules.specs.declared.table.Table.{Table}
-use Rattle.rules.specs.declared.table.Taken.TheVariants.{Accepted, Refused}
-use Rattle.rules.specs.declared.table.TableRead.{TableRead}
-use Rattle.rules.specs.declared.answer.Answer.{Answer}
-use Rattle.rules.specs.declared.answer.Answer.TheVariants.{More, NotAllowed, Surplus, TooShort}
+use Rattle.rules.specs.declared.answer.Answer.TheVariants.{More, TooShort}
 use Rattle.rules.specs.declared.world.World.{World}
 use Rattle.rules.specs.Limits.{max_objects}
 use Rattle.rules.specs.Object.{no_object, new_entry}
 use Rattle.rules.specs.Sheet.{sheet_of, sheet_length}
 use Rattle.rules.proofs.SheetLaws.{sheet_over}
-use Rattle.rules.specs.Judge.{Verdict, step, Given, untouched, shown, judge_table, judge_of}
-use Rattle.rules.specs.Table.{Read, refused, accepted, read_table, read_of}
+use Rattle.rules.specs.Judge.{Verdict, step, Given, untouched, shown, judge_table}
 use Rattle.rules.specs.Turn.{start}
-use Rattle.turns_run.specs.declared.End.{End}
-use Rattle.turns_run.specs.declared.End.TheVariants as end
-use Rattle.turns_run.specs.Run.{ran_of}
+use Rattle.turns_run.specs.declared.Ran.{Ran}
+use Rattle.turns_run.specs.declared.Refusal.{Refusal}
+use Rattle.turns_run.specs.Run.{ran_of, answer_of}
 
 -- the objects are made in a pass over the store
 abbrev pub made_at : List Made → ℕ → Entry → Entry
@@ -76,62 +73,31 @@ left_out ms k x z e l h f =
     sym (set-get_or z k x) ∙ turned (made_at ms) k (replicate max_objects x) x z (get_or z k x) within h (same ∙ e ∙ ap new_entry (not_made m.kind m.spurious f))
 
 -- what a run shows: its answer, and the sheet of the world it hands back, unless it was refused
-abbrev pub is_shown : End → Bool
-is_shown (end.NotAllowed i) = false
-is_shown (end.Surplus i) = false
-is_shown end.Unfinished = true
-is_shown (end.Verdict a) = true
-
-abbrev pub answer_of : End → Answer
-answer_of (end.NotAllowed i) = NotAllowed i
-answer_of (end.Surplus i) = Surplus i
-answer_of end.Unfinished = More
-answer_of (end.Verdict a) = a
-
-unfoldable pub showing : Table → End → World → List ℕ → Given
-showing table e w buffer = record { answer = answer_of e; buffer = elim (is_shown e) [ true ↦ sets buffer 0 (sheet_of table w) | false ↦ buffer ] }
+abbrev pub showing : Table → Result Ran Refusal → List ℕ → Given
+showing table (Err r) buffer = untouched (answer_of r) buffer
+showing table (Ok r) buffer = record { answer = unwrap_or r.verdict More; buffer = sets buffer 0 (sheet_of table r.world) }
 
 -- where the buffer has room for the sheet, what a run shows is what its judgement shows
-pub shows : (table : Table) (buffer : List ℕ) → sheet_length table ≤ length buffer
-    → (j : Judged World Verdict) → showing table (ran_of j).end (ran_of j).world buffer ≡ shown table j buffer
-unfolding showing shown ran_of
+pub shows : (table : Table) (buffer : List ℕ) → sheet_length table ≤ length buffer → (j : Judged World Verdict) → showing table (ran_of j) buffer ≡ shown table j buffer
+unfolding shown
 shows table buffer h (not_allowed i) = refl
 shows table buffer h (surplus i) = refl
 shows table buffer h (unfinished v) = λ i. record { answer = More; buffer = sheet_over buffer table v h i }
 shows table buffer h (verdict v) = λ i. record { answer = v.answer; buffer = sheet_over buffer table v.world h i }
 
--- what the table's reader hands back is what was read
-module _ (bs : List ℕ) (read : TableRead) (e : read ≡ read_of (read_table bs)) where
-  pub was_refused : (a : Answer) → read.taken ≡ Refused a → read_table bs ≡ refused a
-  was_refused a t = go (read_table bs) (ap (λ (x : TableRead). x.taken) (sym e) ∙ t)
-    where
-      go : (r : Read) → (read_of r).taken ≡ Refused a → r ≡ refused a
-      go (refused b) q = ap refused cc
-      go (accepted table) q = let z : ◌≡◌ {A = ℕ} 0 1 = cc in absurd (omega (arith, z))
-
-  pub was_accepted : read.taken ≡ Accepted → read_table bs ≡ accepted read.table
-  was_accepted t = go (read_table bs) (ap (λ (x : TableRead). x.taken) (sym e) ∙ t) ∙ ap (λ (x : TableRead). accepted x.table) (sym e)
-    where
-      go : (r : Read) → (read_of r).taken ≡ Accepted → r ≡ accepted (read_of r).table
-      go (refused b) q = let z : ◌≡◌ {A = ℕ} 0 1 = cc in absurd (omega (arith, z))
-      go (accepted table) q = refl
-
-  -- and what the whole call then comes to
-  module _ (list buffer : List ℕ) where
-    pub judged_refused : (a : Answer) → read.taken ≡ Refused a → untouched a buffer ≡ judge_of bs list buffer
-    unfolding judge_of judge_table
-    judged_refused a t = sym (ap (λ (r : Read). judge_table r list buffer) (was_refused a t))
-
-    pub judged_accepted : read.taken ≡ Accepted → judge_table (accepted read.table) list buffer ≡ judge_of bs list buffer
-    unfolding judge_of
-    judged_accepted t = sym (ap (λ (r : Read). judge_table r list buffer) (was_accepted t))
-
 -- an accepted table, by the room that its sheet has
 module _ (table : Table) (list buffer : List ℕ) where
-  pub judged_short : length buffer < sheet_length table → untouched (TooShort (sheet_length table)) buffer ≡ judge_table (accepted table) list buffer
+  pub judged_short : length buffer < sheet_length table → untouched (TooShort (sheet_length table)) buffer ≡ judge_table (Ok table) list buffer
   unfolding judge_table
   judged_short h = sym (rw (judge_table, lt-leb (sheet_length table) (length buffer) h))
 
-  pub judged_shown : sheet_length table ≤ length buffer → shown table (judge (step table) 0 (start table) list) buffer ≡ judge_table (accepted table) list buffer
+  pub judged_shown : sheet_length table ≤ length buffer → shown table (judge (step table) 0 (start table) list) buffer ≡ judge_table (Ok table) list buffer
   unfolding judge_table
   judged_shown h = sym (rw (judge_table, le-leb (sheet_length table) (length buffer) h))
+
+  pub judged_ran : sheet_length table ≤ length buffer → (w : World) → w ≡ start table → (r : Result Ran Refusal) → r ≡ ran_of (judge (step table) 0 w list)
+      → showing table r buffer ≡ judge_table (Ok table) list buffer
+  judged_ran h w e r f =
+      ap (λ (x : Result Ran Refusal). showing table x buffer) (f ∙ ap (λ (x : World). ran_of (judge (step table) 0 x list)) e)
+      ∙ shows table buffer h (judge (step table) 0 (start table) list)
+      ∙ judged_shown h

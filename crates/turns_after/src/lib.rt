@@ -16,37 +16,22 @@ use turns_steps::Acting;
 fn all_ended(threads: [Thread; THREADS]) -> bool
     ensures { result ≡ all_ended threads }
 {
-    for k in 0..THREADS {
-        let t = threads[k];
-        let state = t.state;
-        if !is_ended(state) {
-            return false;
-        }
-    }
-    true
+    threads.iter().all(|t| is_ended(t.state))
 }
 
 fn any_runnable(threads: [Thread; THREADS]) -> bool
     ensures { result ≡ any_runnable threads }
 {
-    for k in 0..THREADS {
-        let t = threads[k];
-        let state = t.state;
-        if is_runnable(state) {
-            return true;
-        }
-    }
-    false
+    threads.iter().any(|t| is_runnable(t.state))
 }
 
 // The first object that leaks.
+#[tactic(auto, using(rules::proofs::AfterLaws::leak_passed, rules::proofs::AfterLaws::leak_here), unfolding(rules::specs::Turn::leak_check))]
 pub fn leak_check(objects: [Entry; OBJECTS]) -> Answer
     ensures { result ≡ leak_check 0 objects }
 {
-    for k in 0..OBJECTS {
-        let e = objects[k];
-        let kind = e.kind;
-        if leaks(kind, e) {
+    for (k, e) in objects.iter().enumerate() {
+        if leaks(e.kind, *e) {
             return Answer::Leak(ObjectId(k as u8));
         }
     }
@@ -57,26 +42,22 @@ fn announced_object(phase: Phase) -> ObjectId
     ensures { result ≡ announced_object phase }
 {
     match phase {
-        Phase::Nothing => ObjectId(255),
-        Phase::Announced(op) => op.obj,
-        Phase::Parked => ObjectId(255),
-        Phase::Retaking(op) => op.obj,
+        Phase::Announced(op) | Phase::Retaking(op) => op.obj,
+        Phase::Nothing | Phase::Parked => ObjectId(255),
     }
 }
 
 // The lowest thread that has not ended, where it stands.
+#[tactic(auto, using(crate::proofs::Searches::stuck_steps), unfolding(rules::specs::Turn::stuck))]
 fn stuck(threads: [Thread; THREADS]) -> Spot
     ensures { result ≡ stuck 0 threads }
 {
-    for k in 0..THREADS {
-        let t = threads[k];
-        let state = t.state;
-        let phase = t.phase;
-        if !is_ended(state) {
+    for (k, t) in threads.iter().enumerate() {
+        if !is_ended(t.state) {
             return Spot {
                 thread: ThreadId(k as u8),
                 position: t.position,
-                object: announced_object(phase),
+                object: announced_object(t.phase),
             };
         }
     }
@@ -88,6 +69,7 @@ fn stuck(threads: [Thread; THREADS]) -> Spot
 }
 
 // Who acts after a turn.
+#[tactic(auto, unfolding(turns_steps::specs::Step::after))]
 pub fn after(threads: [Thread; THREADS]) -> Acting
     ensures { result ≡ after threads }
 {

@@ -8,62 +8,64 @@ use rules::answer::{Answer, Numbers, Spot};
 use rules::object::ObjectId;
 
 // What an answer has no use for is 255; the place is 0.
-fn only(n: u8) -> Numbers
-    ensures { result ≡ only n }
-{
-    at_place(n, 0)
-}
+const UNUSED: u8 = 255;
 
-fn at_place(n: u8, p: usize) -> Numbers
-    ensures { result ≡ at_place n p }
+fn only(number: u8) -> Numbers
+    ensures { result ≡ only number }
 {
     Numbers {
-        number: n,
-        place: p,
-        thread: 255,
-        position: 255,
-        object: 255,
-        other: 255,
+        number,
+        place: 0,
+        thread: UNUSED,
+        position: UNUSED,
+        object: UNUSED,
+        other: u16::from(UNUSED),
     }
 }
 
-fn at_spot(n: u8, s: Spot, other: u16) -> Numbers
-    ensures { result ≡ at_spot n s other }
+fn at_place(number: u8, place: usize) -> Numbers
+    ensures { result ≡ at_place number place }
 {
     Numbers {
-        number: n,
-        place: 0,
+        place,
+        ..only(number)
+    }
+}
+
+// An object alone: no thread is at fault.
+fn at_object(number: u8, o: ObjectId) -> Numbers
+    ensures { result ≡ record { number = number; place = 0; thread = 255; position = 255; object = o.0; other = 255 } }
+{
+    Numbers {
+        object: o.0,
+        ..only(number)
+    }
+}
+
+fn at_spot(number: u8, s: Spot) -> Numbers
+    ensures { result ≡ at_spot number s 255 }
+{
+    Numbers {
         thread: s.thread.0,
         position: s.position,
-        object: s.object.0,
-        other: other,
+        ..at_object(number, s.object)
     }
 }
 
-// An object that is still held at the end: no thread is at fault.
-fn at_object(n: u8, o: ObjectId) -> Numbers
-    ensures { result ≡ record { number = n; place = 0; thread = 255; position = 255; object = o.0; other = 255 } }
-{
-    Numbers {
-        number: n,
-        place: 0,
-        thread: 255,
-        position: 255,
-        object: o.0,
-        other: 255,
-    }
-}
-
+#[tactic(auto, unfolding(rules::specs::Answer::numbers_of))]
 pub fn numbers(a: Answer) -> Numbers
     ensures { result ≡ numbers_of a }
 {
     match a {
         Answer::Clean => only(0),
-        Answer::Race(s, other) => at_spot(1, s, other.0 as u16),
-        Answer::Deadlock(s) => at_spot(2, s, 255),
+        Answer::Race(s, other) => Numbers {
+            other: u16::from(other.0),
+            ..at_spot(1, s)
+        },
+        Answer::Deadlock(s) => at_spot(2, s),
         Answer::Leak(o) => at_object(3, o),
-        Answer::Misuse(s) => at_spot(4, s, 255),
-        Answer::NoRoom(s) => at_spot(5, s, 255),
+        Answer::Misuse(s) => at_spot(4, s),
+        Answer::NoRoom(s) => at_spot(5, s),
         Answer::More => only(6),
         Answer::NoLaterList => only(7),
         Answer::ListWritten(n) => at_place(8, n),

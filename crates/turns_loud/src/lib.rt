@@ -5,14 +5,13 @@
 ghost use Rattle.std.specs.Prelude.{◌≡◌};
 ghost use Rattle.turns_steps.specs.Loud.{again, op_in, turn_in, asked_in, wakes_spuriously, version_in};
 
-use clocks::Clock;
+use clocks::{Clock, ThreadId};
 use objects::dependence;
 use objects_ground::count::one_more;
 use rules::mutex;
 use rules::object::Entry;
 use rules::table::{Call, Op};
 use rules::thread::{Phase, Thread};
-use rules::world::Asked;
 use turns_steps::Move;
 
 // A retaking thread takes its mutex.
@@ -20,16 +19,11 @@ fn again(phase: Phase, op: Op) -> Op
     ensures { result ≡ again phase op }
 {
     match phase {
-        Phase::Nothing => op,
-        Phase::Announced(_) => op,
-        Phase::Parked => op,
-        Phase::Retaking(p) => {
-            let obj = p.obj;
-            Op {
-                call: Call::Mutex(mutex::Call::AcquireLock),
-                object: obj,
-            }
-        }
+        Phase::Nothing | Phase::Announced(_) | Phase::Parked => op,
+        Phase::Retaking(p) => Op {
+            call: Call::Mutex(mutex::Call::AcquireLock),
+            object: p.obj,
+        },
     }
 }
 
@@ -39,11 +33,10 @@ pub fn op_in(phase: Phase, m: Move, op: Op) -> Op
 {
     match m {
         Move::Begins(_) => again(phase, op),
-        Move::Answers(_, _) => op,
-        Move::Goes(_, _) => op,
-        Move::Waits(_, o) => Op {
+        Move::Answers(_, _) | Move::Goes(_, _) => op,
+        Move::Waits(_, object) => Op {
             call: Call::Mutex(mutex::Call::ReleaseLock),
-            object: o,
+            object,
         },
     }
 }
@@ -51,12 +44,7 @@ pub fn op_in(phase: Phase, m: Move, op: Op) -> Op
 pub fn wakes_spuriously(m: Move) -> bool
     ensures { result ≡ wakes_spuriously m }
 {
-    match m {
-        Move::Begins(_) => false,
-        Move::Answers(_, _) => true,
-        Move::Goes(_, _) => false,
-        Move::Waits(_, _) => false,
-    }
+    matches!(m, Move::Answers(_, _))
 }
 
 pub fn turn_in(m: Move, n: u16) -> u16
@@ -64,20 +52,16 @@ pub fn turn_in(m: Move, n: u16) -> u16
 {
     match m {
         Move::Begins(_) => one_more(n),
-        Move::Answers(_, _) => n,
-        Move::Goes(_, _) => n,
-        Move::Waits(_, _) => n,
+        Move::Answers(_, _) | Move::Goes(_, _) | Move::Waits(_, _) => n,
     }
 }
 
-pub fn asked_in(m: Move, asked: Asked) -> Asked
+pub fn asked_in(m: Move, asked: Option<ThreadId>) -> Option<ThreadId>
     ensures { result ≡ asked_in m asked }
 {
     match m {
-        Move::Begins(_) => asked,
-        Move::Answers(_, _) => Asked::Nobody,
-        Move::Goes(_, _) => asked,
-        Move::Waits(_, _) => asked,
+        Move::Answers(_, _) => None,
+        Move::Begins(_) | Move::Goes(_, _) | Move::Waits(_, _) => asked,
     }
 }
 
@@ -87,8 +71,6 @@ pub fn version(m: Move, call: Call, e: Entry, x: Thread) -> Clock
 {
     match m {
         Move::Begins(t) => dependence(t, call, e, x),
-        Move::Answers(_, _) => x.dependence,
-        Move::Goes(_, _) => x.dependence,
-        Move::Waits(_, _) => x.dependence,
+        Move::Answers(_, _) | Move::Goes(_, _) | Move::Waits(_, _) => x.dependence,
     }
 }

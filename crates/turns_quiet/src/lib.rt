@@ -9,34 +9,25 @@ use objects::is_disabled;
 use objects_calls::{action_of, branch_disable, is_free, wait_of};
 use objects_ground::count::one_more;
 use objects_record::{with_phase, with_state};
-use rules::condvar::Wait;
 use rules::mutex;
 use rules::object::{Action, Entry, ObjectId, Operation};
 use rules::table::{Call, Op};
 use rules::thread::{Phase, State, Thread};
-use rules::world::Asked;
 use turns_steps::{Acting, Move, Quiet, mutex_of};
 
 // A turn that begins with no announced operation.
 fn rests(phase: Phase) -> bool
     ensures { result ≡ rests phase }
 {
-    match phase {
-        Phase::Nothing => true,
-        Phase::Announced(_) => false,
-        Phase::Parked => true,
-        Phase::Retaking(_) => false,
-    }
+    matches!(phase, Phase::Nothing | Phase::Parked)
 }
 
 // A thread stops where it ends, or has to announce or ask.
+#[tactic(auto, unfolding(turns_steps::specs::Quiet::stops))]
 fn stops(left: bool, call: Call) -> bool
     ensures { result ≡ stops left call }
 {
-    if left {
-        return !is_free(call);
-    }
-    true
+    !left || !is_free(call)
 }
 
 pub fn is_quiet(phase: Phase, m: Move, left: bool, call: Call) -> bool
@@ -51,6 +42,7 @@ pub fn is_quiet(phase: Phase, m: Move, left: bool, call: Call) -> bool
 }
 
 // Where the thread is blocked then: a turn that begins can only retake a mutex.
+#[tactic(auto, unfolding(turns_steps::specs::Quiet::is_barred, rules::specs::Effect::is_disabled))]
 pub fn is_barred(begun: bool, call: Call, e: Entry) -> bool
     ensures { result ≡ is_barred begun call e }
 {
@@ -63,12 +55,9 @@ pub fn is_barred(begun: bool, call: Call, e: Entry) -> bool
 fn announced(op: Op, barred: bool, x: Thread) -> Thread
     ensures { result ≡ announced_on op barred x }
 {
-    let call = op.call;
-    let object = op.object;
-    let action = action_of(call);
     let phase = Phase::Announced(Operation {
-        obj: object,
-        action: action,
+        obj: op.object,
+        action: action_of(op.call),
     });
     branch_disable(phase, barred, x)
 }
@@ -83,18 +72,27 @@ fn retaken(m: ObjectId, barred: bool, x: Thread) -> Thread
     branch_disable(phase, barred, x)
 }
 
-fn over(x: Thread, turn: u16, asked: Asked) -> Quiet
-    ensures { result ≡ over x turn asked }
+fn over(thread: Thread, turn: u16, asked: Option<ThreadId>) -> Quiet
+    ensures { result ≡ over thread turn asked }
 {
     Quiet {
         acting: Acting::Over,
-        thread: x,
-        turn: turn,
-        asked: asked,
+        thread,
+        turn,
+        asked,
     }
 }
 
-fn begins(phase: Phase, t: ThreadId, wait: Wait, barred: bool, x: Thread, n: u16, a: Asked) -> Quiet
+#[tactic(auto, unfolding(turns_steps::specs::Quiet::begins))]
+fn begins(
+    phase: Phase,
+    t: ThreadId,
+    wait: Option<ObjectId>,
+    barred: bool,
+    x: Thread,
+    n: u16,
+    a: Option<ThreadId>,
+) -> Quiet
     ensures { result ≡ begins phase t wait barred x n a }
 {
     match phase {
@@ -104,12 +102,12 @@ fn begins(phase: Phase, t: ThreadId, wait: Wait, barred: bool, x: Thread, n: u16
             turn: one_more(n),
             asked: a,
         },
-        Phase::Announced(_) => over(x, n, a),
         Phase::Parked => over(retaken(mutex_of(wait), barred, x), one_more(n), a),
-        Phase::Retaking(_) => over(x, n, a),
+        Phase::Announced(_) | Phase::Retaking(_) => over(x, n, a),
     }
 }
 
+#[tactic(auto, unfolding(turns_steps::specs::Quiet::goes_on))]
 fn goes_on(
     t: ThreadId,
     left: bool,
@@ -118,29 +116,30 @@ fn goes_on(
     ask: bool,
     x: Thread,
     n: u16,
-    a: Asked,
+    a: Option<ThreadId>,
 ) -> Quiet
     ensures { result ≡ goes_on t left op barred ask x n a }
 {
-    if left {
-        if ask {
-            return Quiet {
-                acting: Acting::Nobody,
-                thread: x,
-                turn: n,
-                asked: Asked::Thread(t),
-            };
-        }
-        return over(announced(op, barred, x), n, a);
+    if !left {
+        return over(
+            with_phase(with_state(x, State::Ended), Phase::Nothing),
+            n,
+            a,
+        );
     }
-    over(
-        with_phase(with_state(x, State::Ended), Phase::Nothing),
-        n,
-        a,
-    )
+    if ask {
+        return Quiet {
+            acting: Acting::Nobody,
+            thread: x,
+            turn: n,
+            asked: Some(t),
+        };
+    }
+    over(announced(op, barred, x), n, a)
 }
 
 // The step of a thread x, which is barred or asked or neither.
+#[tactic(auto, unfolding(turns_steps::specs::Quiet::quietly))]
 pub fn quietly(
     m: Move,
     left: bool,
@@ -149,15 +148,13 @@ pub fn quietly(
     ask: bool,
     x: Thread,
     n: u16,
-    a: Asked,
+    a: Option<ThreadId>,
 ) -> Quiet
     ensures { result ≡ quietly m left op barred ask x n a }
 {
-    let call = op.call;
-    let phase = x.phase;
     match m {
-        Move::Begins(t) => begins(phase, t, wait_of(call), barred, x, n, a),
-        Move::Answers(_, _) => over(announced(op, barred, x), n, Asked::Nobody),
+        Move::Begins(t) => begins(x.phase, t, wait_of(op.call), barred, x, n, a),
+        Move::Answers(_, _) => over(announced(op, barred, x), n, None),
         Move::Goes(t, _) => goes_on(t, left, op, barred, ask, x, n, a),
         Move::Waits(_, _) => over(x, n, a),
     }

@@ -5,31 +5,14 @@ ghost use Rattle.std.specs.Prelude.{◌≡◌, ◌+◌, get_or, drop};
 ghost use Rattle.rules.specs.declared.object.Kind.TheVariants as kind;
 ghost use Rattle.rules.specs.declared.table.Call.TheVariants.{Mutex};
 ghost use Rattle.rules.specs.declared.mutex.Call.TheVariants as mutex;
-ghost use Rattle.rules.specs.Table.{body_length, is_object, is_operation, kinds, calls, object_of, operation_of, whole_record, body_byte, record_of};
+ghost use Rattle.rules.specs.Table.{body_length, kinds, calls, object_of, operation_of, whole_record, record_of};
 
 use rules::object::{Kind, ObjectId};
-use rules::table::{Call, Made, Op, Parsed, Record};
+use rules::table::{Call, Made, Op, Record};
 use rules::{arc, cell, condvar, mpsc, mutex, notify, rwlock};
 
-fn is_object(k: u8) -> bool
-    ensures { result ≡ is_object k }
-{
-    if 0x10 <= k {
-        return k <= 0x16;
-    }
-    false
-}
-
-fn is_operation(k: u8) -> bool
-    ensures { result ≡ is_operation k }
-{
-    if 0x30 <= k {
-        return k <= 0x47;
-    }
-    false
-}
-
 // How many bytes of body the kind fixes.
+#[tactic(auto, unfolding(rules::specs::Table::body_length, rules::specs::Table::is_operation))]
 pub fn body_length(k: u8) -> usize
     ensures { result ≡ body_length k }
 {
@@ -37,11 +20,13 @@ pub fn body_length(k: u8) -> usize
         0x10 => 1,
         0x13 => 2,
         0x39 => 2,
-        _ => { if is_operation(k) { 1 } else { 0 } }
+        0x30..=0x47 => 1,
+        _ => 0,
     }
 }
 
 // The objects in the order of their kinds, from 0x10.
+#[tactic(auto, unfolding(rules::specs::Table::kinds))]
 fn kind_at(n: u8) -> Kind
     ensures { result ≡ get_or kinds n kind.Nothing }
 {
@@ -58,6 +43,7 @@ fn kind_at(n: u8) -> Kind
 }
 
 // The operations in the order of their kinds, from 0x30; `second` is the mutex of a condvar wait.
+#[tactic(auto, unfolding(rules::specs::Table::calls))]
 fn call_at(n: u8, second: u8) -> Call
     ensures { result ≡ get_or (calls second) n (Mutex mutex.AcquireLock) }
 {
@@ -90,73 +76,57 @@ fn call_at(n: u8, second: u8) -> Call
     }
 }
 
-fn object_of(n: u8, first: u8, second: u8) -> Parsed
+#[tactic(auto, unfolding(rules::specs::Table::object_of))]
+fn object_of(n: u8, first: u8, second: u8) -> Option<Record>
     ensures { result ≡ object_of n first second }
 {
-    if first <= 1 {
-        if second <= 1 {
-            let kind = kind_at(n);
-            return Parsed::Whole(Record::Object(Made {
-                kind: kind,
-                spurious: second == 1,
-            }));
-        }
+    if first <= 1 && second <= 1 {
+        let made = Made {
+            kind: kind_at(n),
+            spurious: second == 1,
+        };
+        Some(Record::Object(made))
+    } else {
+        None
     }
-    Parsed::Bad
 }
 
-fn operation_of(n: u8, first: u8, second: u8) -> Parsed
+#[tactic(auto, unfolding(rules::specs::Table::operation_of))]
+fn operation_of(n: u8, first: u8, second: u8) -> Option<Record>
     ensures { result ≡ operation_of n first second }
 {
-    Parsed::Whole(Record::Operation(Op {
+    let op = Op {
         call: call_at(n, second),
         object: ObjectId(first),
-    }))
+    };
+    Some(Record::Operation(op))
 }
 
-fn whole_record(k: u8, first: u8, second: u8) -> Parsed
+#[tactic(auto, unfolding(rules::specs::Table::whole_record, rules::specs::Table::is_object, rules::specs::Table::is_operation))]
+fn whole_record(k: u8, first: u8, second: u8) -> Option<Record>
     ensures { result ≡ whole_record k first second }
 {
-    if is_object(k) {
-        return object_of(k - 0x10, first, second);
+    match k {
+        0x10..=0x16 => object_of(k - 0x10, first, second),
+        0x20 => Some(Record::Thread),
+        0x30..=0x47 => operation_of(k - 0x30, first, second),
+        _ => None,
     }
-    if k == 0x20 {
-        return Parsed::Whole(Record::Thread);
-    }
-    if is_operation(k) {
-        return operation_of(k - 0x30, first, second);
-    }
-    Parsed::Bad
-}
-
-// Byte i of a body of n bytes that begins at `from`; 0 if it has none.
-fn body_byte(bytes: &[u8], from: usize, n: usize, i: usize) -> u8
-    ensures { result ≡ body_byte n (drop from bytes.now) i }
-{
-    if i < n {
-        if from < bytes.len() {
-            if i < bytes.len() - from {
-                return bytes[from + i];
-            }
-        }
-    }
-    0
 }
 
 // The record that begins at `at`; past the end there is none.
-pub fn read_record(bytes: &[u8], at: usize) -> Parsed
+#[tactic(auto, using(std::proofs::lemmas::List::drop_all, std::proofs::lemmas::List::get_or_past), unfolding(rules::specs::Table::record_of, rules::specs::Table::whole_record, rules::specs::Table::body_length, rules::specs::Table::is_object, rules::specs::Table::is_operation))]
+pub fn read_record(bytes: &[u8], at: usize) -> Option<Record>
     ensures { result ≡ record_of (get_or bytes.now at 0) (drop (at + 1) bytes.now) }
 {
-    if bytes.len() <= at {
-        return Parsed::Bad;
-    }
-    let k = bytes[at];
-    let n = body_length(k);
-    let from = at + 1;
-    if n <= bytes.len() - from {
-        let first = body_byte(bytes, from, n, 0);
-        let second = body_byte(bytes, from, n, 1);
-        return whole_record(k, first, second);
-    }
-    Parsed::Bad
+    let Some(&k) = bytes.get(at) else {
+        return None;
+    };
+    let rest = &bytes[at + 1..];
+    let Some(body) = rest.get(..body_length(k)) else {
+        return None;
+    };
+    let first = body.first().copied().unwrap_or(0);
+    let second = body.get(1).copied().unwrap_or(0);
+    whole_record(k, first, second)
 }

@@ -1,27 +1,23 @@
 -- A loud step in two: what takes effect, and what follows it. That the two are the step of `Loud`.
-use Rattle.std.specs.Prelude.{◌≡◌, Bool, true, false, ℕ, ◌≤◌, ◌<◌, ltb, get_or}
+use Rattle.std.specs.Prelude.{◌≡◌, Bool, true, false, ◌≤◌, ltb, get_or, Err, Ok}
 use Rattle.std.proofs.Math.Path.{refl, sym, ap}
-use Rattle.std.proofs.Common.{◌∙◌, arith, ltb-true, ltb-false, get_or-set_same}
+use Rattle.std.proofs.Common.{◌∙◌, ltb-true, ltb-false, get_or-set_same}
 use Rattle.std.proofs.lemmas.Bool.{false≢true}
 use mathlib.Core.List.{List}
-use Rattle.std.proofs.Math.ListN.{length, length-set}
+use Rattle.std.proofs.Math.ListN.{length}
 use Rattle.std.proofs.Math.Seq.{set_out}
-use Rattle.std.proofs.lemmas.List.{set-get_or}
 use Rattle.clocks.specs.Clock.{join_of, inc_of}
 use Rattle.clocks.specs.declared.clock.Clock.{Clock}
 use Rattle.clocks.specs.declared.thread.ThreadId.{ThreadId}
 use Rattle.rules.specs.declared.object.ObjectId.{ObjectId}
 use Rattle.rules.specs.declared.object.Entry.{Entry}
-use Rattle.rules.specs.declared.object.Ending.{Ending}
-use Rattle.rules.specs.declared.object.Ending.TheVariants as ending
-use Rattle.rules.specs.declared.thread.Answered.{Answered}
+use Rattle.rules.specs.Ground.{Ending}
+use Rattle.rules.specs.declared.object.Failure.TheVariants as failure
 use Rattle.rules.specs.declared.thread.Phase.{Phase}
 use Rattle.rules.specs.declared.thread.Phase.TheVariants.{Nothing, Announced, Parked, Retaking}
 use Rattle.rules.specs.declared.thread.Thread.{Thread}
 use Rattle.rules.specs.declared.table.Call.{Call}
 use Rattle.rules.specs.declared.table.Op.{Op}
-use Rattle.rules.specs.declared.table.Table.{Table}
-use Rattle.rules.specs.declared.world.Asked.{Asked}
 use Rattle.rules.specs.declared.world.World.{World}
 use Rattle.rules.specs.Ground.{with_clock, thread_at, is_fine}
 use Rattle.rules.specs.Object.{new_entry, no_object, entry_at, put_entry}
@@ -31,14 +27,10 @@ use Rattle.rules.proofs.TouchLaws.{touched-read}
 use Rattle.rules.specs.Turn.{dependence}
 use Rattle.turns_steps.specs.declared.Move.{Move}
 use Rattle.turns_steps.specs.declared.Move.TheVariants.{Begins, Answers, Goes, Waits}
-use Rattle.turns_steps.specs.declared.Acting.{Acting}
-use Rattle.turns_steps.specs.declared.Acting.TheVariants.{Moves, InEffect}
-use Rattle.turns_steps.specs.Step.{Scene, Moved}
-use Rattle.turns_steps.specs.Quiet.{who, rests, is_quiet, subject_in, subject_in_lem}
-use Rattle.turns_steps.specs.Loud.{again, op_in, takes_effect, verdict_or, outcome, next_in, version_in, after_effect, changed, recorded_in, turn_in, asked_in, work, done_by, scene_by, version_before, loud_fine, loud_fails, set_then}
-use Rattle.turns_run.specs.Run.{world_of, followed, rest, Placed, Running, weight, effect_weight}
-use Rattle.turns_run.specs.RunLaws.{effect_lighter, followed_lighter, rest-followed}
-use Rattle.turns_run.specs.Running.{Found, acted}
+use Rattle.turns_steps.specs.Step.{Scene}
+use Rattle.turns_steps.specs.Quiet.{who, rests, is_quiet, subject_in}
+use Rattle.turns_steps.specs.Loud.{again, op_in, takes_effect, version_in, after_effect, changed, recorded_in, turn_in, asked_in, work, done_by, scene_by, version_before, set_then}
+use Rattle.turns_run.specs.Run.{world_of, followed}
 
 -- the object of a loud move is that of its operation
 again-subject : (p : Phase) (t : ThreadId) (op : Op) → rests p ≡ false → subject_in p (Begins t) op ≡ (again p op).object
@@ -65,7 +57,7 @@ module _ (t : ThreadId) (o : ObjectId) (e : Entry) (ts : List Thread) {A : Type 
   done_keeps (Goes u p) c = effect_keeps c
   done_keeps (Waits u p) c = effect_keeps c
 
-done-position : (t : ThreadId) (o : ObjectId) (e : Entry) (ts : List Thread) (m : Move) (c : Call) → (thread_at (takes_effect m c t o e ts).threads t).position ≡ (thread_at ts t).position
+pub done-position : (t : ThreadId) (o : ObjectId) (e : Entry) (ts : List Thread) (m : Move) (c : Call) → (thread_at (takes_effect m c t o e ts).threads t).position ≡ (thread_at ts t).position
 done-position t o e ts = done_keeps t o e ts (λ x. x.position) (λ x c. refl)
 
 done-dependence : (t : ThreadId) (o : ObjectId) (e : Entry) (ts : List Thread) (m : Move) (c : Call) → (thread_at (takes_effect m c t o e ts).threads t).dependence ≡ (thread_at ts t).dependence
@@ -78,12 +70,6 @@ version-by (Begins t) c e x y h = ap (λ (v : Clock). inc_of (join_of v (last_de
 version-by (Answers t b) c e x y h = h
 version-by (Goes t p) c e x y h = h
 version-by (Waits t o) c e x y h = h
-
-fine_is : (x : Ending) → is_fine x ≡ true → x ≡ ending.Fine
-fine_is ending.Fine h = refl
-fine_is ending.Misuse h = absurd (false≢true h)
-fine_is ending.NoRoom h = absurd (false≢true h)
-fine_is (ending.Race t) h = absurd (false≢true h)
 
 module _ (v : World) (m : Move) (op : Op) (o : ObjectId) where
   abbrev pub scene : Scene
@@ -130,73 +116,3 @@ module _ (v : World) (m : Move) (op : Op) (o : ObjectId) where
         turn = turn_in m v.turn;
         asked = asked_in m v.asked;
       })
-
--- what holds in a run after each of the two parts, as the loop asks for it
-module _ {table : Table} {list : List ℕ} {given : World} {ts : List Thread} {es : List Entry} {n : ℕ} {who' : Asked} {acting : Acting} {at : ℕ}
-    (run : Running table list given ts es n who' acting at) where
-  abbrev v : World
-  v = record { threads = ts; objects = es; turn = n; asked = who' }
-
-  module _ (m : Move) (e : acting ≡ Moves m) (l : Placed table) (f : Found table ts m) (q : is_quiet (thread_at ts (who m)).phase m f.left f.op.call ≡ false) where
-    abbrev seen : Scene
-    seen = scene v m f.op f.object
-
-    abbrev op : Op
-    op = work f.op seen m
-
-    abbrev done : Effect
-    done = done_by f.op seen m op
-
-    abbrev stood : ℕ
-    stood = (thread_at ts (who m)).position
-
-    abbrev pub outcome_of : Acting
-    outcome_of = outcome done.ending m op done.answer stood
-
-    pub done-fine : is_fine done.ending ≡ true → Running table list given done.threads (put_entry es f.object done.entry) n who' outcome_of at
-    unfolding outcome verdict_or
-    done-fine h =
-        let x : Moved = record { acting = next_in m (wait_of op.call) stood; scene = scene_by f.op seen m op done } in
-        let r = acted run m e l f (entry_at es f.object) refl x (sym (loud_fine f.op seen m f.left q h)) (put_entry es f.object x.scene.entry) refl in
-        let o : f.object ≡ op.object = f.is_object_lem ∙ subject_in_lem ts m f.op ∙ work-subject (thread_at ts (who m)).phase m f.left f.op q in
-        let fine : done.ending ≡ ending.Fine = fine_is done.ending h in
-        let same : stood ≡ (thread_at done.threads (who m)).position = sym (done-position (who m) op.object seen.entry ts m op.call) in
-        record {
-          judged =
-              r.judged
-              ∙ (λ i. rest table list at (next_in m (wait_of op.call) (same i)) (sym (followed_is v m f.op f.object o) i))
-              ∙ sym (rest-followed table list at (between v m f.op f.object) m op done.answer)
-              ∙ ap (λ (y : Ending). rest table list at (outcome y m op done.answer stood) (between v m f.op f.object)) (sym fine);
-          all = length-set es f.object.0 done.entry ∙ run.all;
-        }
-
-    pub done-fails : is_fine done.ending ≡ false → Running table list given ts es n who' outcome_of at
-    done-fails h =
-        let x : Moved = record { acting = outcome_of; scene = seen } in
-        acted run m e l f (entry_at es f.object) refl x (sym (loud_fails f.op seen m f.left q h)) es (sym (set-get_or es f.object.0 _))
-
-    pub done_less : (y : Ending) (a : Answered) → weight (outcome y m op a stood) < weight acting
-    done_less y a = let p : weight acting ≡ weight (Moves m) = ap weight e in let h = effect_lighter table l ts (thread_at ts (who m)).phase y m f.left f.op op a stood f.is_left q in omega (arith, p, h)
-
-  module _ (m : Move) (op : Op) (a : Answered) (e : acting ≡ InEffect m op a) where
-    abbrev pub version : Clock
-    version = version_in m op.call (entry_at es op.object) (thread_at ts (who m))
-
-    abbrev pub recorded : Entry → Entry
-    recorded y = recorded_in m op.call (record { path_id = turn_in m n; version = version }) y
-
-    pub followed_on : (us : List Thread) (fs : List Entry) (k : ℕ) (who'' : Asked) (b : Acting) → us ≡ changed ts (who m) (after_effect m (wait_of op.call) a version) → fs ≡ put_entry es op.object (recorded (entry_at es op.object))
-        → k ≡ turn_in m n → who'' ≡ asked_in m who' → b ≡ next_in m (wait_of op.call) (thread_at ts (who m)).position → Running table list given us fs k who'' b at
-    unfolding followed
-    followed_on us fs k who'' b pu pf pk pw pb =
-        record {
-          judged =
-              run.judged
-              ∙ ap (λ (c : Acting). rest table list at c v) e
-              ∙ rest-followed table list at v m op a
-              ∙ sym (λ i. rest table list at (pb i) (record { threads = pu i; objects = pf i; turn = pk i; asked = pw i }));
-          all = ap (λ (gs : List Entry). length gs) pf ∙ length-set es op.object.0 _ ∙ run.all;
-        }
-
-    pub followed_less : (position : ℕ) → weight (next_in m (wait_of op.call) position) < weight acting
-    followed_less position = let p : weight acting ≡ effect_weight m = ap weight e in let h = followed_lighter m (wait_of op.call) position in omega (arith, p, h)

@@ -1,4 +1,5 @@
 pub mod Run
 pub mod RunLaws
-pub mod Running
 pub mod InEffect
+pub mod Steps
+pub mod Running

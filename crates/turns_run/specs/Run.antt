@@ -1,23 +1,19 @@
 -- A list of decisions, run step by step: who acts, what that means for the turn of document 01, and what is left of the list's judgement.
-use Rattle.std.specs.Prelude.{◌≡◌, Bool, List, ℕ, ◌+◌, ◌-◌, ◌*◌, ◌≤◌, ltb, length, get_or, drop, replicate}
-use Rattle.clocks.specs.Clock.{max_threads, risen}
+use Rattle.std.specs.Prelude.{◌≡◌, Bool, List, ℕ, ◌+◌, ◌-◌, ◌*◌, ◌≤◌, ltb, length, get_or, drop, None, Option, Some, Result, Ok, Err}
+use Rattle.clocks.specs.Clock.{risen}
 use Rattle.lists.specs.Rules.{Outcome}
 use Rattle.lists.specs.Rules as outcome
 use Rattle.lists.specs.Judge.{Judged, not_allowed, surplus, unfinished, verdict, judge_end, judge}
 use Rattle.rules.specs.declared.object.ObjectId.{ObjectId}
-use Rattle.rules.specs.declared.object.Entry.{Entry}
-use Rattle.rules.specs.declared.thread.Answered.{Answered}
 use Rattle.rules.specs.declared.thread.Thread.{Thread}
 use Rattle.rules.specs.declared.table.Op.{Op}
 use Rattle.rules.specs.declared.table.Table.{Table}
-use Rattle.rules.specs.declared.world.Asked.{Asked}
-use Rattle.rules.specs.declared.world.Asked.TheVariants as asked
 use Rattle.rules.specs.declared.world.World.{World}
 use Rattle.rules.specs.declared.world.Decided.{Decided}
-use Rattle.rules.specs.Limits.{max_objects, op_places}
-use Rattle.rules.specs.Ground.{flag, absent}
+use Rattle.rules.specs.Limits.{op_places}
+use Rattle.rules.specs.Ground.{flag}
 use Rattle.rules.specs.Effect.{wait_of}
-use Rattle.rules.specs.Object.{new_entry, no_object, put_entry}
+use Rattle.rules.specs.Object.{put_entry}
 use Rattle.rules.specs.Table.{no_op, ops_of}
 use Rattle.rules.specs.Turn.{thread_in, entry_in, wants, done, after_turn, leak_check, settled, wait, go_on, turn_of, question, ops_left}
 use Rattle.rules.specs.Judge.{Verdict, outcome_of, step}
@@ -28,7 +24,10 @@ use Rattle.turns_steps.specs.declared.Acting.TheVariants.{Nobody, Moves, InEffec
 use Rattle.turns_steps.specs.Step.{Scene, place_of}
 use Rattle.turns_steps.specs.Quiet.{who}
 use Rattle.turns_steps.specs.Loud.{turn_in, asked_in, version_in, changed, after_effect, recorded_in, next_in}
-use Rattle.turns_run.specs.declared.End.TheVariants as end
+use Rattle.rules.specs.declared.answer.Answer.{Answer}
+use Rattle.rules.specs.declared.answer.Answer.TheVariants as answer
+use Rattle.turns_run.specs.declared.Refusal.{Refusal}
+use Rattle.turns_run.specs.declared.Refusal.TheVariants.{NotAllowed, Surplus}
 use Rattle.turns_run.specs.declared.Ran.{Ran}
 
 -- whether an operation is left for a move, and the operation
@@ -53,7 +52,7 @@ moved_by table (Goes t p) w = go_on t (drop p (ops_of table t.0)) w
 moved_by table (Waits t m) w = after_turn (settled w m (wait t m (entry_in w m) w.threads))
 
 -- the world after what follows an effect: the access of an announced operation is recorded, and the thread goes on
-unfoldable pub followed : Move → Op → Answered → World → World
+unfoldable pub followed : Move → Op → Option ℕ → World → World
 followed m op n w =
     let e = entry_in w op.object in
     let v = version_in m op.call e (thread_in w (who m)) in
@@ -91,9 +90,8 @@ unfoldable pub rest : Table → List ℕ → ℕ → Acting → World → Judged
 rest table list at a w = let r = decided table a w in onwards table list at (outcome_of r.step r.world)
 
 -- what holds from step to step: the judgement of the whole list is that of what is left
-pub record Running (table : Table) (list : List ℕ) (given : World) (threads : List Thread) (objects : List Entry) (turn : ℕ) (who : Asked) (acting : Acting) (at : ℕ) : Type 0 where
-  pub judged : judge (step table) 0 given list ≡ rest table list at acting (record { threads = threads; objects = objects; turn = turn; asked = who })
-  pub all : length objects ≡ max_objects
+abbrev pub Running : Table → List ℕ → World → World → Acting → ℕ → Type 0
+Running table list given w acting at = judge (step table) 0 given list ≡ rest table list at acting w
 
 -- the operations have their places, and their counts are bytes
 pub record Placed (table : Table) : Type 0 where
@@ -124,13 +122,14 @@ weight Over = 2
 weight AllEnded = 1
 weight (Done a) = 0
 
--- a world in which nothing is
-unfoldable pub nowhere : World
-nowhere = record { threads = replicate max_threads absent; objects = replicate max_objects (new_entry no_object); turn = 0; asked = asked.Nobody }
+-- a judgement as the code hands it back
+abbrev pub ran_of : Judged World Verdict → Result Ran Refusal
+ran_of (not_allowed i) = Err (NotAllowed i)
+ran_of (surplus i) = Err (Surplus i)
+ran_of (unfinished v) = Ok (record { verdict = None; world = v })
+ran_of (verdict v) = Ok (record { verdict = Some v.answer; world = v.world })
 
--- a judgement as the code hands it back; a refusal comes with no world
-unfoldable pub ran_of : Judged World Verdict → Ran
-ran_of (not_allowed i) = record { end = end.NotAllowed i; world = nowhere }
-ran_of (surplus i) = record { end = end.Surplus i; world = nowhere }
-ran_of (unfinished v) = record { end = end.Unfinished; world = v }
-ran_of (verdict v) = record { end = end.Verdict v.answer; world = v.world }
+-- what a refusal is told as
+abbrev pub answer_of : Refusal → Answer
+answer_of (NotAllowed i) = answer.NotAllowed i
+answer_of (Surplus i) = answer.Surplus i

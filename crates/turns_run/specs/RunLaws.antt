@@ -1,5 +1,5 @@
 -- The steps of a turn are the turn of document 01, and what is left of a list's judgement stays the same from step to step.
-use Rattle.std.specs.Prelude.{◌≡◌, Bool}
+use Rattle.std.specs.Prelude.{◌≡◌, Bool, None, Option, Some, Err, Ok}
 use Rattle.std.proofs.Math.Path.{refl, ap}
 use Rattle.std.proofs.Common.{sym, ◌∙◌, add-one}
 use Rattle.std.proofs.Math.Bool.{true, false}
@@ -19,22 +19,17 @@ use Rattle.lists.specs.Rules.{Outcome}
 use Rattle.lists.specs.Rules as outcome
 use Rattle.lists.specs.Judge.{Judged, not_allowed, surplus, unfinished, verdict, judge_at, judge_end, judge}
 use Rattle.rules.specs.declared.object.ObjectId.{ObjectId}
-use Rattle.rules.specs.declared.object.Ending.{Ending}
-use Rattle.rules.specs.declared.object.Ending.TheVariants as ending
+use Rattle.rules.specs.Ground.{Ending}
+use Rattle.rules.specs.declared.object.Failure.TheVariants as failure
 use Rattle.rules.specs.declared.mutex.Call.TheVariants as mutex-call
-use Rattle.rules.specs.declared.condvar.Wait.{Wait}
-use Rattle.rules.specs.declared.condvar.Wait.TheVariants.{On, Nowhere}
 use Rattle.rules.specs.declared.thread.Phase.{Phase}
 use Rattle.rules.specs.declared.thread.Phase.TheVariants.{Nothing, Announced, Parked, Retaking}
-use Rattle.rules.specs.declared.thread.Answered.{Answered}
 use Rattle.rules.specs.declared.thread.Thread.{Thread}
 use Rattle.rules.specs.declared.table.Call.TheVariants.{Mutex}
 use Rattle.rules.specs.declared.table.Op.{Op}
 use Rattle.rules.specs.declared.table.Table.{Table}
 use Rattle.rules.specs.declared.answer.Answer.{Answer}
 use Rattle.rules.specs.declared.answer.Answer.TheVariants as answer
-use Rattle.rules.specs.declared.world.Asked.{Asked}
-use Rattle.rules.specs.declared.world.Asked.TheVariants as asked
 use Rattle.rules.specs.declared.world.World.{World}
 use Rattle.rules.specs.declared.object.Entry.{Entry}
 use Rattle.rules.specs.declared.world.Decided.{Decided}
@@ -106,24 +101,24 @@ module _ (table : Table) (t : ThreadId) (p : ℕ) (l : Placed table) where
 failing_law : (table : Table) (w : World) (t : ThreadId) (op : Op) (o : ObjectId) → op.object ≡ o → (e : Ending) (next : Decided) (then : Moved) → next ≡ landed table w o then
     → ending_of e (spot t op w) w next ≡ landed table w o (failing e t o (scene_of w o) then)
 unfolding ending_of failing decided
-failing_law table w t op o q ending.Fine next then h = h
-failing_law table w t op o q ending.Misuse next then h = λ i. done (answer.Misuse (record { thread = t; position = (thread_in w t).position; object = q i })) (same w o i)
-failing_law table w t op o q ending.NoRoom next then h = λ i. done (answer.NoRoom (record { thread = t; position = (thread_in w t).position; object = q i })) (same w o i)
-failing_law table w t op o q (ending.Race x) next then h = λ i. done (answer.Race (record { thread = t; position = (thread_in w t).position; object = q i }) x) (same w o i)
+failing_law table w t op o q (Ok ok) next then h = h
+failing_law table w t op o q (Err failure.Misuse) next then h = λ i. done (answer.Misuse (record { thread = t; position = (thread_in w t).position; object = q i })) (same w o i)
+failing_law table w t op o q (Err failure.NoRoom) next then h = λ i. done (answer.NoRoom (record { thread = t; position = (thread_in w t).position; object = q i })) (same w o i)
+failing_law table w t op o q (Err (failure.Race x)) next then h = λ i. done (answer.Race (record { thread = t; position = (thread_in w t).position; object = q i }) x) (same w o i)
 
 -- what follows an announced operation's effect
 module _ (table : Table) (w : World) (o : ObjectId) (t : ThreadId) (p : ℕ) (later : List Op) (l : later ≡ drop (risen 255 p) (ops_of table t.0)) (s : Scene) where
   abbrev reached : World
   reached = world_of w o s
 
-  goes_law : (n : Answered) → go_on t later (with_threads reached (advance t n reached.threads)) ≡ landed table w o (advanced s t n p)
+  goes_law : (n : Option ℕ) → go_on t later (with_threads reached (advance t n reached.threads)) ≡ landed table w o (advanced s t n p)
   unfolding decided moved_by
   goes_law n = ap (λ (os : List Op). go_on t os (with_threads reached (advance t n reached.threads))) l
 
-  thereafter_law : (m : Wait) (n : Answered) → turn.thereafter m t n later reached ≡ landed table w o (thereafter m t n p s)
+  thereafter_law : (m : Option ObjectId) (n : Option ℕ) → turn.thereafter m t n later reached ≡ landed table w o (thereafter m t n p s)
   unfolding turn.thereafter thereafter decided moved_by
-  thereafter_law Nowhere n = goes_law n
-  thereafter_law (On m) n = refl
+  thereafter_law None n = goes_law n
+  thereafter_law (Some m) n = refl
 
 -- an announced operation, or the retaking of a mutex
 module _ (table : Table) (w : World) (t : ThreadId) (p : ℕ) (q : (thread_in w t).position ≡ p) (later : List Op) (l : later ≡ drop (risen 255 p) (ops_of table t.0)) where
@@ -157,10 +152,10 @@ module _ (table : Table) (w : World) (t : ThreadId) (l : Placed table) where
 
   answers_law : (b : Bool) → question t (get_or (ops_left table w t) 0 no_op) (flag b) w ≡ landed table w first.object (answers t b first (scene_of w first.object))
   unfolding question answers spurious turn.spurious decided
-  answers_law true = ap (λ (op : Op). after_turn (turn.spurious t op (with_asked w asked.Nobody))) (first-left table t at l)
+  answers_law true = ap (λ (op : Op). after_turn (turn.spurious t op (with_asked w None))) (first-left table t at l)
   answers_law false =
-      ap (λ (op : Op). after_turn (with_threads (with_asked w asked.Nobody) (turn.announce_op t op (entry_in w op.object) w.threads))) (first-left table t at l)
-      ∙ ap (λ (v : World). after_turn (with_threads (with_asked v asked.Nobody) (turn.announce_op t first (entry_in w first.object) w.threads))) (same w first.object)
+      ap (λ (op : Op). after_turn (with_threads (with_asked w None) (turn.announce_op t op (entry_in w op.object) w.threads))) (first-left table t at l)
+      ∙ ap (λ (v : World). after_turn (with_threads (with_asked v None) (turn.announce_op t first (entry_in w first.object) w.threads))) (same w first.object)
 
 -- the operations that need no announcement, one at a time
 module _ (table : Table) (w : World) (t : ThreadId) (p : ℕ) (l : Placed table) where
@@ -187,7 +182,7 @@ module _ (table : Table) (w : World) (t : ThreadId) (p : ℕ) (l : Placed table)
       rw (go_on, goes_on, f)
       (failing_law table w t op o refl r.ending _ _ (goes_law table w o t p (drop (risen 255 p) (ops_of table t.0)) refl (with (scene_of w o) r.entry r.threads) r.answer)))
       (λ f.
-      split (asks op.call e) (λ a. rw (go_on, goes_on, f, a) (ap (λ (v : World). wants (with_asked v (asked.Thread t))) (same w o)))
+      split (asks op.call e) (λ a. rw (go_on, goes_on, f, a) (ap (λ (v : World). wants (with_asked v (Some t))) (same w o)))
       (λ a. rw (go_on, goes_on, f, a) (ap (λ (v : World). after_turn (with_threads v (turn.announce_op t op e w.threads))) (same w o))))
 
 waits_law : (table : Table) (w : World) (t : ThreadId) (m : ObjectId)
@@ -211,17 +206,17 @@ after_law table w =
     split (all_ended w.threads) (λ e. rw (after_step, after, e)) (λ e. split (any_runnable w.threads) (λ r. rw (after_step, after, e, r)) (λ r. rw (after_step, after, e, r)))
 
 -- a decision that is allowed, and one that is not
-allowed_at : (table : Table) (w : World) (d : ℕ) (a : Asked) → is_allowed a w.threads d ≡ true → decide_at a table w d ≡ moved_by table (chosen a d) w
+allowed_at : (table : Table) (w : World) (d : ℕ) (a : Option ThreadId) → is_allowed a w.threads d ≡ true → decide_at a table w d ≡ moved_by table (chosen a d) w
 unfolding decide_at begin moved_by
-allowed_at table w d asked.Nobody h = rw (begin, h)
-allowed_at table w zero (asked.Thread t) h = refl
-allowed_at table w (suc zero) (asked.Thread t) h = refl
-allowed_at table w (suc (suc d)) (asked.Thread t) h = absurd (omega (arith, leb-true (suc (suc d)) 1 h))
+allowed_at table w d None h = rw (begin, h)
+allowed_at table w zero (Some t) h = refl
+allowed_at table w (suc zero) (Some t) h = refl
+allowed_at table w (suc (suc d)) (Some t) h = absurd (omega (arith, leb-true (suc (suc d)) 1 h))
 
-refused_at : (table : Table) (w : World) (d : ℕ) (a : Asked) → is_allowed a w.threads d ≡ false → decide_at a table w d ≡ refused w
+refused_at : (table : Table) (w : World) (d : ℕ) (a : Option ThreadId) → is_allowed a w.threads d ≡ false → decide_at a table w d ≡ refused w
 unfolding decide_at begin question
-refused_at table w d asked.Nobody h = rw (begin, h)
-refused_at table w d (asked.Thread t) h =
+refused_at table w d None h = rw (begin, h)
+refused_at table w d (Some t) h =
     let big : 1 < d = leb-false d 1 h in rw (question, ne_eqb d 0 (λ e. omega (arith, big, e)), ne_eqb d 1 (λ e. omega (arith, big, e)))
 
 -- what is left of a list's judgement
@@ -291,15 +286,15 @@ module _ (table : Table) (list : List ℕ) (at : ℕ) (w : World) where
 -- each step of a turn has fewer steps to follow
 failing_lighter : (n : ℕ) (e : Ending) (t : ThreadId) (o : ObjectId) (s : Scene) (next : Moved) → 0 < n → weight next.acting < n → weight (failing e t o s next).acting < n
 unfolding failing
-failing_lighter n ending.Fine t o s next z h = h
-failing_lighter n ending.Misuse t o s next z h = z
-failing_lighter n ending.NoRoom t o s next z h = z
-failing_lighter n (ending.Race x) t o s next z h = z
+failing_lighter n (Ok ok) t o s next z h = h
+failing_lighter n (Err failure.Misuse) t o s next z h = z
+failing_lighter n (Err failure.NoRoom) t o s next z h = z
+failing_lighter n (Err (failure.Race x)) t o s next z h = z
 
-thereafter_lighter : (m : Wait) (t : ThreadId) (n : Answered) (p : ℕ) (s : Scene) → weight (thereafter m t n p s).acting < 2000
+thereafter_lighter : (m : Option ObjectId) (t : ThreadId) (n : Option ℕ) (p : ℕ) (s : Scene) → weight (thereafter m t n p s).acting < 2000
 unfolding thereafter
-thereafter_lighter Nowhere t n p s = omega arith
-thereafter_lighter (On m) t n p s = omega arith
+thereafter_lighter None t n p s = omega arith
+thereafter_lighter (Some m) t n p s = omega arith
 
 operation_lighter : (t : ThreadId) (op : Op) (s : Scene) → weight (operation t op s).acting < 2000
 unfolding operation
@@ -343,27 +338,27 @@ unfolding after
 after_light ts =
     split (all_ended ts) (λ e. rw (after, e) (omega arith)) (λ e. split (any_runnable ts) (λ r. rw (after, e, r) (omega arith)) (λ r. rw (after, e, r) (omega arith)))
 
-pub chosen-weight : (a : Asked) (d : ℕ) → weight (Moves (chosen a d)) ≡ 2000
-chosen-weight asked.Nobody d = refl
-chosen-weight (asked.Thread t) d = refl
+pub chosen-weight : (a : Option ThreadId) (d : ℕ) → weight (Moves (chosen a d)) ≡ 2000
+chosen-weight None d = refl
+chosen-weight (Some t) d = refl
 
 -- what follows an effect has fewer steps to follow
-pub followed_lighter : (m : Move) (w : Wait) (position : ℕ) → weight (next_in m w position) < effect_weight m
-followed_lighter (Begins t) Nowhere position = omega arith
-followed_lighter (Begins t) (On m) position = omega arith
+pub followed_lighter : (m : Move) (w : Option ObjectId) (position : ℕ) → weight (next_in m w position) < effect_weight m
+followed_lighter (Begins t) None position = omega arith
+followed_lighter (Begins t) (Some m) position = omega arith
 followed_lighter (Answers t b) w position = omega arith
 followed_lighter (Goes t p) w position = omega arith
 followed_lighter (Waits t o) w position = omega arith
 
-outcome_lighter : (e : Ending) (m : Move) (op : Op) (n : Answered) (position k : ℕ) → effect_weight m < k → weight (outcome e m op n position) < k
+outcome_lighter : (e : Ending) (m : Move) (op : Op) (n : Option ℕ) (position k : ℕ) → effect_weight m < k → weight (outcome e m op n position) < k
 unfolding outcome verdict_or
-outcome_lighter ending.Fine m op n position k h = h
-outcome_lighter ending.Misuse m op n position k h = omega (arith, h)
-outcome_lighter ending.NoRoom m op n position k h = omega (arith, h)
-outcome_lighter (ending.Race x) m op n position k h = omega (arith, h)
+outcome_lighter (Ok ok) m op n position k h = h
+outcome_lighter (Err failure.Misuse) m op n position k h = omega (arith, h)
+outcome_lighter (Err failure.NoRoom) m op n position k h = omega (arith, h)
+outcome_lighter (Err (failure.Race x)) m op n position k h = omega (arith, h)
 
 -- so has an effect
-pub effect_lighter : (table : Table) → Placed table → (ts : List Thread) (p : Phase) (e : Ending) (m : Move) (b : Bool) (op w : Op) (n : Answered) (position : ℕ) → b ≡ left_of table ts m
+pub effect_lighter : (table : Table) → Placed table → (ts : List Thread) (p : Phase) (e : Ending) (m : Move) (b : Bool) (op w : Op) (n : Option ℕ) (position : ℕ) → b ≡ left_of table ts m
     → is_quiet p m b op.call ≡ false → weight (outcome e m w n position) < weight (Moves m)
 unfolding stops
 effect_lighter table l ts p e (Begins t) b op w n position f q = outcome_lighter e (Begins t) w n position 2000 (omega arith)
@@ -374,15 +369,15 @@ effect_lighter table l ts p e (Goes t k) false op w n position f q = absurd (fal
 effect_lighter table l ts p e (Waits t o) b op w n position f q = outcome_lighter e (Waits t o) w n position 6 (omega arith)
 
 -- what is left of the judgement once an effect is followed
-pub rest-followed : (table : Table) (list : List ℕ) (at : ℕ) (w : World) (m : Move) (op : Op) (n : Answered)
+pub rest-followed : (table : Table) (list : List ℕ) (at : ℕ) (w : World) (m : Move) (op : Op) (n : Option ℕ)
     → rest table list at (InEffect m op n) w ≡ rest table list at (next_in m (wait_of op.call) (thread_in w (who m)).position) (followed m op n w)
 unfolding rest decided
 rest-followed table list at w (Begins t) op n = by-wait (wait_of op.call)
   where
-    by-wait : (o : Wait) → onwards table list at (outcome_of (gone_on table (next_of o t (risen 255 (thread_in w t).position)) (followed (Begins t) op n w)).step (gone_on table (next_of o t (risen 255 (thread_in w t).position)) (followed (Begins t) op n w)).world)
+    by-wait : (o : Option ObjectId) → onwards table list at (outcome_of (gone_on table (next_of o t (risen 255 (thread_in w t).position)) (followed (Begins t) op n w)).step (gone_on table (next_of o t (risen 255 (thread_in w t).position)) (followed (Begins t) op n w)).world)
         ≡ rest table list at (next_of o t (risen 255 (thread_in w t).position)) (followed (Begins t) op n w)
-    by-wait Nowhere = refl
-    by-wait (On m) = refl
+    by-wait None = refl
+    by-wait (Some m) = refl
 rest-followed table list at w (Answers t b) op n = refl
 rest-followed table list at w (Goes t p) op n = refl
 rest-followed table list at w (Waits t o) op n = refl

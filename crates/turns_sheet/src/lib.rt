@@ -1,10 +1,10 @@
 // The sheet: threads, then objects, each by its record. What lies past the end of the lent bytes is not written.
 #![tactic(auto)]
 
-ghost use Rattle.std.specs.Prelude.{◌≡◌, ◌<◌, min, take};
+ghost use Rattle.std.specs.Prelude.{◌≡◌, ◌*◌, take};
 ghost use Rattle.std.proofs.lemmas.List.Edits.{sets};
 ghost use Rattle.rules.specs.Ground.{absent};
-ghost use Rattle.rules.specs.Limits.{max_objects};
+ghost use Rattle.rules.specs.Limits.{thread_record};
 ghost use Rattle.rules.specs.Sheet.{filled, each, thread_bytes, objects_bytes, sheet_of, record_length, objects_length, sheet_length};
 
 use clocks::{THREADS, ThreadId};
@@ -34,6 +34,7 @@ const ARC: usize = 2 + THREADS;
 
 const CELL: usize = 3 + 2 * THREADS;
 
+#[tactic(auto, unfolding(rules::specs::Sheet::record_length))]
 fn record_length(kind: Kind) -> usize
     ensures { result ≡ record_length kind }
 {
@@ -49,32 +50,21 @@ fn record_length(kind: Kind) -> usize
     }
 }
 
-// A table has no more objects than places for them.
-fn places(count: u8) -> usize
-    ensures { result ≡ min count max_objects }
-{
-    let n = count as usize;
-    if n < OBJECTS { n } else { OBJECTS }
-}
-
 fn objects_length(objects: [Made; OBJECTS], count: u8) -> usize
     ensures { result ≡ objects_length (take count objects) }
 {
-    let n = places(count);
-    let mut size = 0;
-    for i in 0..n {
-        let made = objects[i];
-        let kind = made.kind;
-        size += record_length(kind);
-    }
-    size
+    objects
+        .iter()
+        .take(usize::from(count))
+        .map(|made| record_length(made.kind))
+        .sum()
 }
 
+#[tactic(auto, using(rules::proofs::SheetLaws::first_small), unfolding(rules::specs::Sheet::sheet_length))]
 pub fn sheet_length(table: Table) -> usize
     ensures { result ≡ sheet_length table }
 {
-    let objects = table.objects;
-    THREAD * (table.thread_count as usize) + objects_length(objects, table.object_count)
+    THREAD * usize::from(table.thread_count) + objects_length(table.objects, table.object_count)
 }
 
 fn put_threads(sheet: &mut [u8], n: u8, threads: [Thread; THREADS])
@@ -82,39 +72,33 @@ fn put_threads(sheet: &mut [u8], n: u8, threads: [Thread; THREADS])
 {
     for i in 0..n {
         let t = get(threads, ThreadId(i));
-        put_thread(sheet, THREAD * (i as usize), t);
+        put_thread(sheet, THREAD * usize::from(i), &t);
     }
 }
 
-// The objects, each where the one before it ends. The bound is far above any sheet, so that each sum fits.
+// The objects, each where the one before it ends, and the first where the threads end.
 fn put_objects(
     sheet: &mut [u8],
-    from: usize,
+    threads: u8,
     count: u8,
     objects: [Made; OBJECTS],
-    entries: [Entry; OBJECTS],
+    entries: &[Entry; OBJECTS],
 )
-    requires { from < 50000 }
-    ensures { sheet.new ≡ sets sheet.old from (objects_bytes (take count objects) entries) }
+    ensures { sheet.new ≡ sets sheet.old (thread_record * threads) (objects_bytes (take count objects) entries.now) }
 {
-    let n = places(count);
-    let mut at = from;
-    for i in 0..n {
-        let made = objects[i];
-        let kind = made.kind;
-        let e = entries[i];
-        put_object(sheet, at, kind, e);
-        at += record_length(kind);
+    let mut at = THREAD * usize::from(threads);
+    for (made, e) in objects.iter().zip(entries).take(usize::from(count)) {
+        put_object(sheet, at, made.kind, e);
+        at += record_length(made.kind);
     }
 }
 
+#[tactic(auto, using(rules::proofs::SheetLaws::sheet_written))]
 pub fn write_sheet(table: Table, world: World, sheet: &mut [u8])
     ensures { sheet.new ≡ sets sheet.old 0 (sheet_of table world) }
 {
-    let objects = table.objects;
-    let threads = world.threads;
-    let entries = world.objects;
-    put_threads(sheet, table.thread_count, threads);
-    let from = THREAD * (table.thread_count as usize);
-    put_objects(sheet, from, table.object_count, objects, entries);
+    let threads = table.thread_count;
+    let count = table.object_count;
+    put_threads(sheet, threads, world.threads);
+    put_objects(sheet, threads, count, table.objects, &world.objects);
 }

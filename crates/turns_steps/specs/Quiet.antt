@@ -1,5 +1,5 @@
 -- The steps that leave their object as it is, by what each does to its thread, and that they are the steps of `Step`.
-use Rattle.std.specs.Prelude.{◌≡◌, Bool, ℕ, leb}
+use Rattle.std.specs.Prelude.{◌≡◌, Bool, ℕ, leb, None, Option, Some}
 use Rattle.std.proofs.Math.Path.{refl, ap}
 use Rattle.std.proofs.Common.{sym, ◌∙◌}
 use Rattle.std.proofs.Math.Bool.{true, false, not}
@@ -11,7 +11,6 @@ use Rattle.clocks.specs.declared.thread.ThreadId.{ThreadId}
 use Rattle.rules.specs.declared.object.Action.TheVariants as action
 use Rattle.rules.specs.declared.object.ObjectId.{ObjectId}
 use Rattle.rules.specs.declared.object.Entry.{Entry}
-use Rattle.rules.specs.declared.condvar.Wait.{Wait}
 use Rattle.rules.specs.declared.thread.Phase.{Phase}
 use Rattle.rules.specs.declared.thread.Phase.TheVariants.{Nothing, Announced, Parked, Retaking}
 use Rattle.rules.specs.declared.thread.State.{State}
@@ -19,15 +18,13 @@ use Rattle.rules.specs.declared.thread.State.TheVariants as state
 use Rattle.rules.specs.declared.thread.Thread.{Thread}
 use Rattle.rules.specs.declared.table.Call.{Call}
 use Rattle.rules.specs.declared.table.Op.{Op}
-use Rattle.rules.specs.declared.world.Asked.{Asked}
-use Rattle.rules.specs.declared.world.Asked.TheVariants as asked
 use Rattle.rules.specs.Limits.{op_places}
 use Rattle.rules.specs.Ground.{thread_at, put_thread, with_state, with_phase, is_runnable}
 use Rattle.rules.specs.Object.{announced}
 use Rattle.rules.specs.Mutex as mutex
 use Rattle.rules.specs.Effect.{is_free, action_of, is_disabled, asks, wait_of}
 use Rattle.rules.proofs.TableLaws.{split}
-use Rattle.rules.specs.Turn.{mutex_of, announce_op, retake, ended, is_allowed}
+use Rattle.rules.specs.Turn.{mutex_of, announce_op, retake, ended}
 use Rattle.turns_steps.specs.declared.Move.{Move}
 use Rattle.turns_steps.specs.declared.Move.TheVariants.{Begins, Answers, Goes, Waits}
 use Rattle.turns_steps.specs.declared.Acting.TheVariants.{Nobody, Moves, Over}
@@ -72,18 +69,9 @@ place_in_lem counts ts (Answers t b) = refl
 place_in_lem counts ts (Goes t p) = refl
 place_in_lem counts ts (Waits t o) = refl
 
-abbrev pub allowed_in : Asked → State → ℕ → Bool
-allowed_in asked.Nobody s d = is_runnable s
-allowed_in (asked.Thread t) s d = leb d 1
-
-pub allowed_in_lem : (a : Asked) (ts : List Thread) (d : ℕ) → is_allowed a ts d ≡ allowed_in a (thread_at ts (who (chosen a d))).state d
-allowed_in_lem asked.Nobody ts d = refl
-allowed_in_lem (asked.Thread t) ts d = refl
-
--- of the thread that the decision names; a question is answered whoever that is
-pub allowed_of : (a : Asked) (ts : List Thread) (d : ℕ) → allowed_in a (thread_at ts (record { 0 = d })).state d ≡ is_allowed a ts d
-allowed_of asked.Nobody ts d = refl
-allowed_of (asked.Thread t) ts d = refl
+abbrev pub allowed_in : Option ThreadId → State → ℕ → Bool
+allowed_in None s d = is_runnable s
+allowed_in (Some t) s d = leb d 1
 
 -- which steps leave their object as it is
 abbrev pub rests : Phase → Bool
@@ -111,25 +99,25 @@ announced_on op barred x = announced (Announced (record { obj = op.object; actio
 abbrev pub retaken_on : ObjectId → Bool → Thread → Thread
 retaken_on m barred x = announced (Retaking (record { obj = m; action = action.Opaque })) barred x
 
-abbrev pub over : Thread → ℕ → Asked → Quiet
+abbrev pub over : Thread → ℕ → Option ThreadId → Quiet
 over x n a = record { acting = Over; thread = x; turn = n; asked = a }
 
-unfoldable pub begins : Phase → ThreadId → Wait → Bool → Thread → ℕ → Asked → Quiet
+unfoldable pub begins : Phase → ThreadId → Option ObjectId → Bool → Thread → ℕ → Option ThreadId → Quiet
 begins Nothing t c barred x n a = record { acting = Moves (Goes t x.position); thread = x; turn = risen 65535 n; asked = a }
 begins (Announced p) t c barred x n a = over x n a
 begins Parked t c barred x n a = over (retaken_on (mutex_of c) barred x) (risen 65535 n) a
 begins (Retaking p) t c barred x n a = over x n a
 
-unfoldable pub goes_on : ThreadId → Bool → Op → Bool → Bool → Thread → ℕ → Asked → Quiet
+unfoldable pub goes_on : ThreadId → Bool → Op → Bool → Bool → Thread → ℕ → Option ThreadId → Quiet
 goes_on t left op barred ask x n a =
     elim left [
-      | true ↦ elim ask [ true ↦ record { acting = Nobody; thread = x; turn = n; asked = asked.Thread t } | false ↦ over (announced_on op barred x) n a ]
+      | true ↦ elim ask [ true ↦ record { acting = Nobody; thread = x; turn = n; asked = Some t } | false ↦ over (announced_on op barred x) n a ]
       | false ↦ over (with_phase (with_state x state.Ended) Nothing) n a
     ]
 
-unfoldable pub quietly : Move → Bool → Op → Bool → Bool → Thread → ℕ → Asked → Quiet
+unfoldable pub quietly : Move → Bool → Op → Bool → Bool → Thread → ℕ → Option ThreadId → Quiet
 quietly (Begins t) left op barred ask x n a = begins x.phase t (wait_of op.call) barred x n a
-quietly (Answers t spur) left op barred ask x n a = over (announced_on op barred x) n asked.Nobody
+quietly (Answers t spur) left op barred ask x n a = over (announced_on op barred x) n None
 quietly (Goes t p) left op barred ask x n a = goes_on t left op barred ask x n a
 quietly (Waits t o) left op barred ask x n a = over x n a
 
@@ -155,7 +143,7 @@ module _ (op : Op) (s : Scene) where
   goes-quietly t p false h = refl
   goes-quietly t p true h =
       split (is_free op.call) (λ f. absurd (false≢true (sym (ap not f) ∙ h)))
-      (λ f. split (asks op.call s.entry) (λ k. rw (step.goes_on, goes_on, f, k) (ap (λ (ts : List Thread). record { acting = Nobody; scene = record { entry = s.entry; threads = ts; turn = s.turn; asked = asked.Thread t } }) (same t))) (λ k. rw (step.goes_on, goes_on, f, k)))
+      (λ f. split (asks op.call s.entry) (λ k. rw (step.goes_on, goes_on, f, k) (ap (λ (ts : List Thread). record { acting = Nobody; scene = record { entry = s.entry; threads = ts; turn = s.turn; asked = Some t } }) (same t))) (λ k. rw (step.goes_on, goes_on, f, k)))
 
   pub quiet_law : (m : Move) (left : Bool) → is_quiet (thread_at s.threads (who m)).phase m left op.call ≡ true
       → act m left op s

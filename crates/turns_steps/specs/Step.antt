@@ -1,28 +1,22 @@
 -- A turn in steps: what each does to the threads and to the one object that it is about. `RunLaws` shows that together they are the turn of
 -- document 01.
-use Rattle.std.specs.Prelude.{◌≡◌, Bool, true, false, List, ℕ, ◌+◌, ◌*◌, ◌≤◌, ◌<◌, eqb, ltb, get_or}
-use Rattle.std.proofs.Common.{lt-ltb, le-ltb}
+use Rattle.std.specs.Prelude.{◌≡◌, Bool, true, false, List, ℕ, ◌+◌, ◌*◌, ◌≤◌, ◌<◌, eqb, ltb, get_or, None, Option, Some, Err, Ok}
+use Rattle.std.proofs.Common.{◌∙◌, ap, lt-ltb, le-ltb}
 use Rattle.clocks.specs.Clock.{risen}
 use Rattle.clocks.specs.declared.thread.ThreadId.{ThreadId}
 use Rattle.rules.specs.declared.object.ObjectId.{ObjectId}
 use Rattle.rules.specs.declared.object.Entry.{Entry}
-use Rattle.rules.specs.declared.object.Ending.{Ending}
-use Rattle.rules.specs.declared.object.Ending.TheVariants as ending
+use Rattle.rules.specs.Ground.{Ending}
+use Rattle.rules.specs.declared.object.Failure.TheVariants as failure
 use Rattle.rules.specs.declared.mutex.Call.TheVariants as mutex-call
-use Rattle.rules.specs.declared.condvar.Wait.{Wait}
-use Rattle.rules.specs.declared.condvar.Wait.TheVariants.{On, Nowhere}
 use Rattle.rules.specs.declared.thread.Phase.{Phase}
 use Rattle.rules.specs.declared.thread.Phase.TheVariants.{Nothing, Announced, Parked, Retaking}
-use Rattle.rules.specs.declared.thread.Answered.{Answered}
-use Rattle.rules.specs.declared.thread.Answered.TheVariants.{Kept}
 use Rattle.rules.specs.declared.thread.Thread.{Thread}
 use Rattle.rules.specs.declared.table.Call.TheVariants.{Mutex}
 use Rattle.rules.specs.declared.table.Op.{Op}
 use Rattle.rules.specs.declared.answer.Answer.{Answer}
 use Rattle.rules.specs.declared.answer.Answer.TheVariants as answer
 use Rattle.rules.specs.declared.answer.Spot.{Spot}
-use Rattle.rules.specs.declared.world.Asked.{Asked}
-use Rattle.rules.specs.declared.world.Asked.TheVariants as asked
 use Rattle.rules.specs.Limits.{max_operations, op_places}
 use Rattle.rules.specs.Ground.{thread_at, put_thread, set_runnable}
 use Rattle.rules.specs.Object.{put_notify}
@@ -39,7 +33,7 @@ pub record Scene : Type 0 where
   pub entry : Entry
   pub threads : List Thread
   pub turn : ℕ
-  pub asked : Asked
+  pub asked : Option ThreadId
 
 -- who acts after a step, and the scene then
 pub record Moved : Type 0 where
@@ -66,7 +60,7 @@ with s e ts = record { entry = e; threads = ts; turn = s.turn; asked = s.asked }
 abbrev pub in_turn : Scene → ℕ → Scene
 in_turn s n = record { entry = s.entry; threads = s.threads; turn = n; asked = s.asked }
 
-abbrev pub asked_as : Scene → Asked → Scene
+abbrev pub asked_as : Scene → Option ThreadId → Scene
 asked_as s a = record { entry = s.entry; threads = s.threads; turn = s.turn; asked = a }
 
 -- what a step may come to
@@ -83,23 +77,23 @@ abbrev pub queues : Scene → ThreadId → ObjectId → Moved
 queues s t m = record { acting = Moves (Waits t m); scene = s }
 
 abbrev pub asking : ThreadId → Scene → Moved
-asking t s = record { acting = Nobody; scene = asked_as s (asked.Thread t) }
+asking t s = record { acting = Nobody; scene = asked_as s (Some t) }
 
 abbrev pub spot_in : Scene → ThreadId → ObjectId → Spot
 spot_in s t o = record { thread = t; position = (thread_at s.threads t).position; object = o }
 
 unfoldable pub failing : Ending → ThreadId → ObjectId → Scene → Moved → Moved
-failing ending.Fine t o before next = next
-failing ending.Misuse t o before next = fails before (answer.Misuse (spot_in before t o))
-failing ending.NoRoom t o before next = fails before (answer.NoRoom (spot_in before t o))
-failing (ending.Race other) t o before next = fails before (answer.Race (spot_in before t o) other)
+failing (Ok ok) t o before next = next
+failing (Err failure.Misuse) t o before next = fails before (answer.Misuse (spot_in before t o))
+failing (Err failure.NoRoom) t o before next = fails before (answer.NoRoom (spot_in before t o))
+failing (Err (failure.Race other)) t o before next = fails before (answer.Race (spot_in before t o) other)
 
-abbrev pub advanced : Scene → ThreadId → Answered → ℕ → Moved
+abbrev pub advanced : Scene → ThreadId → Option ℕ → ℕ → Moved
 advanced s t n p = goes (with s s.entry (advance t n s.threads)) t (risen 255 p)
 
-unfoldable pub thereafter : Wait → ThreadId → Answered → ℕ → Scene → Moved
-thereafter Nowhere t n p s = advanced s t n p
-thereafter (On m) t n p s = queues s t m
+unfoldable pub thereafter : Option ObjectId → ThreadId → Option ℕ → ℕ → Scene → Moved
+thereafter None t n p s = advanced s t n p
+thereafter (Some m) t n p s = queues s t m
 
 unfoldable pub operation : ThreadId → Op → Scene → Moved
 operation t op s =
@@ -133,11 +127,11 @@ goes_on t p left op s =
 
 unfoldable pub spurious : ThreadId → Scene → Moved
 spurious t s =
-    over (with s (put_notify s.entry (notify.spur s.entry.notify)) s.threads) (advance t Kept (put_thread s.threads t (set_runnable (thread_at s.threads t))))
+    over (with s (put_notify s.entry (notify.spur s.entry.notify)) s.threads) (advance t None (put_thread s.threads t (set_runnable (thread_at s.threads t))))
 
 unfoldable pub answers : ThreadId → Bool → Op → Scene → Moved
 answers t spur op s =
-    elim spur [ true ↦ spurious t (asked_as s asked.Nobody) | false ↦ over (asked_as s asked.Nobody) (announce_op t op s.entry s.threads) ]
+    elim spur [ true ↦ spurious t (asked_as s None) | false ↦ over (asked_as s None) (announce_op t op s.entry s.threads) ]
 
 unfoldable pub waits : ThreadId → ObjectId → Scene → Moved
 waits t m s = let r = wait t m s.entry s.threads in over (with s r.entry s.threads) r.threads
@@ -152,24 +146,26 @@ act (Waits t o) left op s = waits t o s
 abbrev pub place_at : List ℕ → ThreadId → ℕ → ℕ
 place_at counts t p = elim (ltb p (get_or counts t.0 0)) [ true ↦ max_operations * t.0 + p | false ↦ op_places ]
 
--- the place of an operation that is left, and of none
-module _ (counts : List ℕ) (t : ThreadId) (p : ℕ) where
-  pub place_there : p < get_or counts t.0 0 → max_operations * t.0 + p ≡ place_at counts t p
-  place_there h = rw (place_at, lt-ltb p (get_or counts t.0 0) h)
-
-  pub place_none : get_or counts t.0 0 ≤ p → op_places ≡ place_at counts t p
-  place_none h = rw (place_at, le-ltb p (get_or counts t.0 0) h)
-
 abbrev pub place_of : List ℕ → List Thread → Move → ℕ
 place_of counts ts (Begins t) = place_at counts t (thread_at ts t).position
 place_of counts ts (Answers t b) = place_at counts t (thread_at ts t).position
 place_of counts ts (Goes t p) = place_at counts t p
 place_of counts ts (Waits t o) = op_places
 
+-- a number, where it is below a bound; one past it stands for none
+abbrev pub below : ℕ → ℕ → Option ℕ
+below top n = elim (ltb n top) [ true ↦ Some n | false ↦ None ]
+
+pub below_there : (top n k : ℕ) → n ≡ k → n < top → Some n ≡ below top k
+below_there top n k e h = let s : Some n ≡ below top n = rw (below, lt-ltb n top h) in s ∙ ap (below top) e
+
+pub below_none : (top k : ℕ) → top ≤ k → None ≡ below top k
+below_none top k h = rw (below, le-ltb k top h)
+
 -- the move that a decision chooses
-abbrev pub chosen : Asked → ℕ → Move
-chosen asked.Nobody d = Begins (record { 0 = d })
-chosen (asked.Thread t) d = Answers t (eqb d 1)
+abbrev pub chosen : Option ThreadId → ℕ → Move
+chosen None d = Begins (record { 0 = d })
+chosen (Some t) d = Answers t (eqb d 1)
 
 -- who acts after a turn
 unfoldable pub after : List Thread → Acting

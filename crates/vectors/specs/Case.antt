@@ -1,5 +1,5 @@
 -- What the contracts of `case` cite.
-use Rattle.std.specs.Prelude.{ℕ, ◌+◌, ◌-◌, ◌≡◌, Bool, true, false, cond, List, [], ◌∷◌, ◌==◌, eqb, ltb, length, take, drop}
+use Rattle.std.specs.Prelude.{ℕ, ◌+◌, ◌-◌, ◌≡◌, Bool, true, false, cond, Option, None, Some, List, [], ◌∷◌, ◌==◌, eqb, ltb, length, take, drop}
 use Rattle.std.specs.List.{position_or_len}
 use Rattle.rules.specs.declared.answer.Numbers.{Numbers}
 use Rattle.rules.specs.Answer.{numbers_of}
@@ -8,13 +8,11 @@ use Rattle.rules.specs.Walk.{first_of, next_of}
 use Rattle.vectors.specs.Text.{number_of}
 use Rattle.vectors.specs.declared.case.Call.{Call}
 use Rattle.vectors.specs.declared.case.Call.TheVariants.{Judge, First, Next}
-use Rattle.vectors.specs.declared.text.Number.{Number}
-use Rattle.vectors.specs.declared.text.Number.TheVariants.{Is, Bad}
 
 -- a text that gave m is the number n
-abbrev pub is_number : Number → ℕ → Bool
-is_number (Is m) n = eqb m n
-is_number Bad n = false
+abbrev pub is_number : Option ℕ → ℕ → Bool
+is_number (Some m) n = eqb m n
+is_number None n = false
 
 -- where the word that begins at `from` ends: at the next space, or with the text
 unfoldable pub word_end : List ℕ → ℕ → ℕ

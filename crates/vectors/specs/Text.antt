@@ -1,26 +1,24 @@
 -- What the contracts of `text` cite: a digit's value, a decimal number, bytes as pairs of digits. Assumes nothing.
-use Rattle.std.specs.Prelude.{ℕ, ◌+◌, ◌*◌, ◌-◌, ◌≤◌, ◌<◌, ◌≡◌, Bool, true, false, cond, List, [], ◌∷◌, ltb, leb, length, get_or}
-use Rattle.vectors.specs.declared.text.Number.{Number}
-use Rattle.vectors.specs.declared.text.Number.TheVariants.{Is, Bad}
+use Rattle.std.specs.Prelude.{ℕ, ◌+◌, ◌*◌, ◌-◌, ◌≤◌, ◌<◌, ◌≡◌, cond, Option, None, Some, List, [], ◌∷◌, ltb, leb, length, get_or}
 
 -- 0 to 9 and A to F by their ASCII codes; 16 for any other byte
 unfoldable pub hex_value : ℕ → ℕ
 hex_value b =
     cond (ltb b 48) 16 (cond (leb b 57) (b - 48) (cond (ltb b 65) 16 (cond (leb b 70) (b - 65 + 10) 16)))
 
-abbrev pub pick : Bool → Number → Number → Number
-pick true a b = a
-pick false a b = b
+-- the value of a byte that is a digit
+abbrev pub hex_digit_of : ℕ → Option ℕ
+hex_digit_of b = cond (ltb (hex_value b) 16) (Some (hex_value b)) None
 
 -- the digits that follow those that gave n; with n of nine digits or more no further one is taken
-unfoldable pub number_from : ℕ → List ℕ → Number
-number_from n [] = Is n
-number_from n (b ∷ bs) = pick (ltb 9 (hex_value b)) Bad (pick (ltb 99999999 n) Bad (number_from (n * 10 + hex_value b) bs))
+unfoldable pub number_from : ℕ → List ℕ → Option ℕ
+number_from n [] = Some n
+number_from n (b ∷ bs) = cond (ltb 9 (hex_value b)) None (cond (ltb 99999999 n) None (number_from (n * 10 + hex_value b) bs))
 
 -- a decimal number of one digit or more
-unfoldable pub number_of : List ℕ → Number
+unfoldable pub number_of : List ℕ → Option ℕ
 unfolding number_from
-number_of [] = Bad
+number_of [] = None
 number_of (b ∷ bs) = number_from 0 (b ∷ bs)
 
 -- the bytes hold at k the value of the k-th pair of digits

@@ -1,11 +1,9 @@
 // One stored case, a line `table|list|room|answer|bytes`, with `first|` or `next|` before it if it is not the judge's: the call is made on a buffer
 // of that room, and what it gives is compared.
-ghost use Rattle.std.specs.Prelude.{◌≡◌, true, ◌+◌, ◌≤◌, ◌==◌, drop, length, replicate};
-ghost use Rattle.std.specs.List.{position_or_len};
-ghost use Rattle.vectors.specs.Text.{number_of};
-ghost use Rattle.vectors.specs.Case.{is_number, answer_from, in_order, given_of, Agreed};
+ghost use Rattle.std.specs.Prelude.{◌≡◌, ◌↔◌, IsTrue};
+ghost use Rattle.vectors.specs.Case.{answer_from, in_order, given_of, Agreed};
 
-use crate::text::{Hex, Number, decimal, hex_bytes};
+use crate::text::{decimal, hex_bytes};
 use rules::answer::{Answer, Numbers};
 use turns::judge;
 use turns_answer::numbers;
@@ -17,11 +15,42 @@ const ROOM: usize = 2048;
 const FILL: u8 = 0xA5;
 
 // What a case calls.
-#[derive(Drop)]
-pub enum Call {
+#[derive(Clone, Copy)]
+enum Call {
     Judge,
     First,
     Next,
+}
+
+impl Call {
+    // The call that a line names, and the fields after its name.
+    fn named(line: &[u8]) -> (Call, &[u8]) {
+        if let Some(fields) = line.strip_prefix(b"first|") {
+            (Call::First, fields)
+        } else if let Some(fields) = line.strip_prefix(b"next|") {
+            (Call::Next, fields)
+        } else {
+            (Call::Judge, line)
+        }
+    }
+
+    fn make(self, table: &[u8], list: &[u8], buffer: &mut [u8]) -> Answer
+        ensures { record { answer = result; buffer = buffer.new } ≡ given_of self table.now list.now buffer.old }
+    {
+        match self {
+            Call::Judge => judge(table, list, buffer),
+            Call::First => first(table, buffer),
+            Call::Next => next(table, list, buffer),
+        }
+    }
+
+    // The call gives this answer, and leaves in the buffer what `told` has.
+    fn gives(self, table: &[u8], list: &[u8], buffer: &mut [u8], answer: &[u8], told: &[u8]) -> bool
+        ensures { IsTrue result ↔ Agreed self table.now list.now buffer.old answer.now told.now }
+    {
+        let given = self.make(table, list, buffer);
+        is_answer(answer, in_order(numbers(given))) && *buffer == *told
+    }
 }
 
 // The six numbers in the order in which a line has them.
@@ -29,178 +58,73 @@ fn in_order(n: Numbers) -> [usize; 6]
     ensures { result ≡ in_order n }
 {
     [
-        n.number as usize,
+        usize::from(n.number),
         n.place,
-        n.thread as usize,
-        n.position as usize,
-        n.object as usize,
-        n.other as usize,
+        usize::from(n.thread),
+        usize::from(n.position),
+        usize::from(n.object),
+        usize::from(n.other),
     ]
-}
-
-fn is_number(text: &[u8], n: usize) -> bool
-    ensures { result ≡ is_number (number_of text.now) n }
-{
-    match decimal(text) {
-        Number::Is(m) => m == n,
-        Number::Bad => false,
-    }
-}
-
-// Where the byte stands first from `from` on, or the text's length.
-fn find(text: &[u8], from: usize, b: u8) -> usize
-    requires { from ≤ length text.now }
-    ensures value { result ≡ from + position_or_len (λ x. x == b) (drop from text.now) }
-    ensures bound { (from ≤ result) × (result ≤ length text.now) }
-{
-    let rest = &text[from..];
-    for i in 0..rest.len() {
-        if rest[i] == b {
-            return from + i;
-        }
-    }
-    text.len()
 }
 
 // The numbers stand with one space between two, and nothing else.
 fn is_answer(text: &[u8], six: [usize; 6]) -> bool
     ensures { result ≡ answer_from text.now 0 six }
 {
-    let mut from = 0;
-    for k in 0..6 {
-        if text.len() < from {
-            return false;
-        }
-        let end = find(text, from, b' ');
-        if !is_number(&text[from..end], six[k]) {
-            return false;
-        }
-        from = end + 1;
-    }
-    text.len() < from
+    let words = text.split(|b| *b == b' ').map(decimal);
+    words.eq(six.into_iter().map(Some))
 }
 
-fn filled(b: u8) -> [u8; ROOM]
-    ensures length { 2048 ≡ length result }
-    ensures value { result ≡ replicate 2048 b }
-{
-    [b; ROOM]
-}
-
-fn made(call: Call, table: &[u8], list: &[u8], buffer: &mut [u8]) -> Answer
-    ensures { record { answer = result; buffer = buffer.new } ≡ given_of call table.now list.now buffer.old }
-{
-    match call {
-        Call::Judge => judge(table, list, buffer),
-        Call::First => first(table, buffer),
-        Call::Next => next(table, list, buffer),
-    }
-}
-
-// The call gives this answer, and leaves in the buffer what `told` has.
-fn gives(
+// The fields of a line, as they stand.
+#[derive(Clone, Copy)]
+struct Case<'a> {
     call: Call,
-    table: &[u8],
-    list: &[u8],
-    buffer: &mut [u8],
-    answer: &[u8],
-    told: &[u8],
-) -> bool
-    ensures agreed { result ≡ true → Agreed call table.now list.now buffer.old answer.now told.now }
-    ensures agrees { Agreed call table.now list.now buffer.old answer.now told.now → result ≡ true }
-{
-    let a = made(call, table, list, buffer);
-    let six = in_order(numbers(a));
-    is_answer(answer, six) && *buffer == *told
+    table: &'a [u8],
+    list: &'a [u8],
+    room: &'a [u8],
+    answer: &'a [u8],
+    told: &'a [u8],
 }
 
-// The bytes are put over the fill, so one comparison shows what was written and what was not.
-fn replay(
-    call: Call,
-    table: &[u8],
-    list: &[u8],
-    room: &[u8],
-    answer: &[u8],
-    written: &[u8],
-) -> bool {
-    let mut t = filled(FILL);
-    let Hex::Bytes(a) = hex_bytes(table, &mut t) else {
-        return false;
-    };
-    let mut l = filled(FILL);
-    let Hex::Bytes(b) = hex_bytes(list, &mut l) else {
-        return false;
-    };
-    let mut told = filled(FILL);
-    let Hex::Bytes(c) = hex_bytes(written, &mut told) else {
-        return false;
-    };
-    let Number::Is(n) = decimal(room) else {
-        return false;
-    };
-    if n < c {
-        return false;
+impl<'a> Case<'a> {
+    // A line that lacks a field is no case.
+    fn read(line: &'a [u8]) -> Option<Case<'a>> {
+        let (call, fields) = Call::named(line);
+        let mut fields = fields.splitn(5, |b| *b == b'|');
+        Some(Case {
+            call,
+            table: fields.next()?,
+            list: fields.next()?,
+            room: fields.next()?,
+            answer: fields.next()?,
+            told: fields.next()?,
+        })
     }
-    if ROOM < n {
-        return false;
-    }
-    let mut buffer = filled(FILL);
-    gives(call, &t[..a], &l[..b], &mut buffer[..n], answer, &told[..n])
-}
 
-// Where the next bar stands, or the line's length.
-fn bar(line: &[u8], from: usize) -> usize
-    requires { from ≤ length line.now }
-    ensures { (from ≤ result) × (result ≤ length line.now) }
-{
-    find(line, from, b'|')
-}
-
-// The fields after the call's name; one that lacks is no case that could agree.
-fn fields_agree(call: Call, line: &[u8]) -> bool {
-    let n = line.len();
-    let a = bar(line, 0);
-    if a == n {
-        return false;
+    // Whether the call gives what is told, if the fields can be read.
+    // The bytes are put over the fill, so one comparison shows what was written and what was not.
+    fn replay(self) -> Option<bool> {
+        let mut table = [FILL; ROOM];
+        let mut list = [FILL; ROOM];
+        let mut told = [FILL; ROOM];
+        let mut buffer = [FILL; ROOM];
+        let table_length = hex_bytes(self.table, &mut table)?;
+        let list_length = hex_bytes(self.list, &mut list)?;
+        let room = decimal(self.room)?;
+        let told = told.get_mut(..room)?;
+        hex_bytes(self.told, told)?;
+        Some(
+            self.call.gives(
+                &table[..table_length],
+                &list[..list_length],
+                &mut buffer[..room],
+                self.answer,
+                told,
+            ),
+        )
     }
-    let b = bar(line, a + 1);
-    if b == n {
-        return false;
-    }
-    let c = bar(line, b + 1);
-    if c == n {
-        return false;
-    }
-    let d = bar(line, c + 1);
-    if d == n {
-        return false;
-    }
-    replay(
-        call,
-        &line[..a],
-        &line[a + 1..b],
-        &line[b + 1..c],
-        &line[c + 1..d],
-        &line[d + 1..],
-    )
-}
-
-fn begins_with(line: &[u8], name: &[u8]) -> bool
-    ensures { result ≡ true → length name.now ≤ length line.now }
-{
-    let n = name.len();
-    if line.len() < n {
-        return false;
-    }
-    &line[..n] == name
 }
 
 pub fn agrees(line: &[u8]) -> bool {
-    if begins_with(line, b"first|") {
-        return fields_agree(Call::First, &line[6..]);
-    }
-    if begins_with(line, b"next|") {
-        return fields_agree(Call::Next, &line[5..]);
-    }
-    fields_agree(Call::Judge, line)
+    Case::read(line).and_then(Case::replay) == Some(true)
 }

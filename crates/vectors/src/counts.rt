@@ -1,61 +1,27 @@
-// What is known of the lines so far, and how it is told.
-use std::io;
+// How many cases there were, and how it is told.
+use std::fmt;
 
-#[derive(Drop)]
+#[derive(Clone, Copy, Default)]
 pub struct Tally {
-    // Bytes of the line that is being gathered; more than its buffer has, where it does not fit.
-    pub length: usize,
     // Lines that are over.
     pub lines: u64,
-    pub cases: u64,
-    pub agreed: u64,
+    cases: u64,
+    agreed: u64,
 }
 
-pub fn none() -> Tally {
-    Tally {
-        length: 0,
-        lines: 0,
-        cases: 0,
-        agreed: 0,
+impl Tally {
+    // A line is over: a case that agrees or not, or no case. At the largest number a count stays.
+    pub fn count(&mut self, agrees: Option<bool>) {
+        self.lines = self.lines.saturating_add(1);
+        if let Some(agrees) = agrees {
+            self.cases = self.cases.saturating_add(1);
+            self.agreed = self.agreed.saturating_add(u64::from(agrees));
+        }
     }
 }
 
-// One more; at the largest number the count stays.
-pub fn one_more(n: u64) -> u64 {
-    if n < u64::MAX { n + 1 } else { n }
-}
-
-// The line is over, and was no case.
-pub fn passed(t: Tally) -> Tally {
-    Tally {
-        length: 0,
-        lines: one_more(t.lines),
-        cases: t.cases,
-        agreed: t.agreed,
+impl fmt::Display for Tally {
+    fn fmt<W: fmt::Write>(&self, f: &mut fmt::Formatter<W>) -> fmt::Result {
+        write!(f, "{} of {} cases agree", self.agreed, self.cases)
     }
-}
-
-// The line is over, and was a case.
-pub fn counted<P: Print>(rt: &P, t: Tally, agrees: bool) -> io::Result<Tally> {
-    let lines = one_more(t.lines);
-    if !agrees {
-        say_case(rt, lines)?;
-    }
-    let agreed = if agrees { one_more(t.agreed) } else { t.agreed };
-    Ok(Tally {
-        length: 0,
-        lines: lines,
-        cases: one_more(t.cases),
-        agreed: agreed,
-    })
-}
-
-fn say_case<P: Print>(rt: &P, n: u64) -> io::Result<()> {
-    println!(rt; "case {n} disagrees")
-}
-
-pub fn say<P: Print>(rt: &P, t: Tally) -> io::Result<()> {
-    let agreed = t.agreed;
-    let cases = t.cases;
-    println!(rt; "{agreed} of {cases} cases agree")
 }

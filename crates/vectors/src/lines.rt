@@ -1,62 +1,69 @@
 // Bytes are gathered into lines, and each line is counted.
 use crate::case::agrees;
-use crate::counts::{Tally, counted, passed};
+use crate::counts::Tally;
 use std::io;
 
-// The line is over: empty, a comment, or a case. One that did not fit is a case that disagrees.
-fn end_line<P: Print>(rt: &P, line: &[u8], t: Tally) -> io::Result<Tally> {
-    let n = t.length;
-    if n == 0 {
-        return Ok(passed(t));
-    }
-    if line.len() < n {
-        return counted(rt, t, false);
-    }
-    if line[0] == b'#' {
-        return Ok(passed(t));
-    }
-    counted(rt, t, agrees(&line[..n]))
+// The largest table, list and sheet take about 6,100 bytes in one line.
+const LINE_ROOM: usize = 8192;
+
+#[derive(Drop)]
+pub struct Lines<'a, P> {
+    rt: &'a P,
+    tally: Tally,
+    line: [u8; LINE_ROOM],
+    // Of the line that is being gathered; more than its room, where it does not fit.
+    length: usize,
 }
 
-// A byte past the end of the buffer is dropped, and the length says that the line did not fit.
-fn keep(b: u8, line: &mut [u8], t: Tally) -> Tally {
-    let n = t.length;
-    let mut length = n;
-    if n < line.len() {
-        line[n] = b;
-        length = n + 1;
-    } else if n == line.len() {
-        length = n + 1;
+impl<'a, P: Print> Lines<'a, P> {
+    pub fn new(rt: &'a P) -> Lines<'a, P> {
+        Lines {
+            rt,
+            tally: Tally::default(),
+            line: [0; LINE_ROOM],
+            length: 0,
+        }
     }
-    Tally {
-        length: length,
-        lines: t.lines,
-        cases: t.cases,
-        agreed: t.agreed,
-    }
-}
 
-fn take_byte<P: Print>(rt: &P, b: u8, line: &mut [u8], t: Tally) -> io::Result<Tally> {
-    if b == b'\n' {
-        end_line(rt, line, t)
-    } else {
-        Ok(keep(b, line, t))
+    pub fn take(&mut self, piece: &[u8]) -> io::Result<()> {
+        for b in piece {
+            if *b == b'\n' {
+                self.end_line()?;
+            } else {
+                self.keep(*b);
+            }
+        }
+        Ok(())
     }
-}
 
-pub fn take_bytes<P: Print>(rt: &P, piece: &[u8], line: &mut [u8], t: Tally) -> io::Result<Tally> {
-    let mut now = t;
-    for i in 0..piece.len() {
-        now = take_byte(rt, piece[i], line, now)?;
+    // The last line may lack its end.
+    pub fn finish(mut self) -> io::Result<Tally> {
+        if self.length > 0 {
+            self.end_line()?;
+        }
+        Ok(self.tally)
     }
-    Ok(now)
-}
 
-// The last line may lack its end.
-pub fn last<P: Print>(rt: &P, line: &[u8], t: Tally) -> io::Result<Tally> {
-    if t.length == 0 {
-        Ok(t)
-    } else {
-        end_line(rt, line, t)
+    // A byte past the room is dropped.
+    fn keep(&mut self, b: u8) {
+        if let Some(place) = self.line.get_mut(self.length) {
+            *place = b;
+        }
+        self.length = self.length.saturating_add(1);
+    }
+
+    // An empty line or a comment is no case. A line that does not fit is a case that disagrees.
+    fn end_line(&mut self) -> io::Result<()> {
+        let agrees = match self.line.get(..self.length) {
+            Some([] | [b'#', ..]) => None,
+            Some(case) => Some(agrees(case)),
+            None => Some(false),
+        };
+        self.length = 0;
+        self.tally.count(agrees);
+        if agrees == Some(false) {
+            println!(self.rt; "case {} disagrees", self.tally.lines)?;
+        }
+        Ok(())
     }
 }

@@ -1,91 +1,50 @@
 // Digits and numbers of a line.
-ghost use Rattle.std.specs.Prelude.{◌≡◌, ℕ};
-ghost use Rattle.vectors.specs.Text.{hex_value, number_of, Hexed};
+ghost use Rattle.std.specs.Prelude.{◌≡◌, IfSome};
+ghost use Rattle.vectors.specs.Text.{hex_digit_of, number_of, Hexed};
 
-// The value of a byte that is no digit.
-const NONE: u8 = 16;
-
-pub fn hex_digit(b: u8) -> u8
-    ensures { result ≡ hex_value b }
+// A small letter is no digit.
+#[tactic(auto, unfolding(crate::specs::Text::hex_value))]
+fn hex_digit(b: u8) -> Option<u8>
+    ensures { result ≡ hex_digit_of b }
 {
-    if b < b'0' {
-        NONE
-    } else if b <= b'9' {
-        b - b'0'
-    } else if b < b'A' {
-        NONE
-    } else if b <= b'F' {
-        b - b'A' + 10
-    } else {
-        NONE
+    match b {
+        b'0'..=b'9' => Some(b - b'0'),
+        b'A'..=b'F' => Some(b - b'A' + 10),
+        _ => None,
     }
 }
 
-#[derive(Drop)]
-pub enum Number {
-    Is(usize),
-    Bad,
-}
-
-// One decimal digit or more; a number that could not be a length or a place is bad.
-pub fn decimal(text: &[u8]) -> Number
+// One decimal digit or more; a number that could not be a length or a place is none.
+#[tactic(auto, unfolding(crate::specs::Text::number_from, crate::specs::Text::number_of))]
+pub fn decimal(text: &[u8]) -> Option<usize>
     ensures { result ≡ number_of text.now }
 {
-    if text.len() == 0 {
-        return Number::Bad;
+    if text.is_empty() {
+        return None;
     }
-    let mut n: usize = 0;
-    let mut i = 0;
-    while i < text.len() {
-        let d = hex_digit(text[i]);
-        if 9 < d {
-            return Number::Bad;
+    let mut n = 0;
+    for b in text {
+        let digit = hex_digit(*b)?;
+        if digit > 9 || n > 99_999_999 {
+            return None;
         }
-        if 99_999_999 < n {
-            return Number::Bad;
-        }
-        n = n * 10 + wide(d);
-        i += 1;
+        n = n * 10 + usize::from(digit);
     }
-    Number::Is(n)
+    Some(n)
 }
 
-fn wide(x: u8) -> usize
-    ensures { result ≡ x }
+// Pairs of digits become bytes at the start of `out`; what lies past them stays. Gives how many.
+pub fn hex_bytes(text: &[u8], out: &mut [u8]) -> Option<usize>
+    ensures { IfSome result (Hexed text.now out.old out.new) }
 {
-    x as usize
-}
-
-#[derive(Drop)]
-pub enum Hex {
-    // How many.
-    Bytes(usize),
-    Bad,
-}
-
-// Pairs of digits become bytes at the start of `out`; what lies past them stays.
-pub fn hex_bytes(text: &[u8], out: &mut [u8]) -> Hex
-    ensures { (n : ℕ) → result ≡ Hex.Bytes n → Hexed text.now out.old out.new n }
-{
-    let n = text.len() / 2;
-    if n + n != text.len() {
-        return Hex::Bad;
+    let (pairs, []) = text.as_chunks::<2>() else {
+        return None;
+    };
+    if out.len() < pairs.len() {
+        return None;
     }
-    if out.len() < n {
-        return Hex::Bad;
+    for (k, [high, low]) in pairs.iter().enumerate() {
+        out[k] = hex_digit(*high)? * 16 + hex_digit(*low)?;
     }
-    let mut k = 0;
-    while k < n {
-        let high = hex_digit(text[k + k]);
-        let low = hex_digit(text[k + k + 1]);
-        if 15 < high {
-            return Hex::Bad;
-        }
-        if 15 < low {
-            return Hex::Bad;
-        }
-        out[k] = high * 16 + low;
-        k += 1;
-    }
-    Hex::Bytes(n)
+    Some(pairs.len())
 }

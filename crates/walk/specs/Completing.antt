@@ -38,7 +38,7 @@ module _ (c : Completion) (d : ℕ) (r : Completion) (n : Completable c) where
       let x = y room in
       record {
         made = longer false x ∙ ap (λ (l : List ℕ). take c.at c.list ++ l) (sym (raised_last (step table) decisions (left table) w d x.leads));
-        inside = omega (arith, as_long false x, x.at, room);
+        inside = omega (arith, x.at, room);
       }
 
   -- one more is wanted

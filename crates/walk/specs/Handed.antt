@@ -1,8 +1,9 @@
 -- What is handed over, as the code makes it.
-use Rattle.std.specs.Prelude.{◌≡◌, true, false, List, ◌++◌, ℕ, ◌≤◌, ◌<◌, length}
+use Rattle.std.specs.Prelude.{◌≡◌, Some, None, List, ◌++◌, ℕ, ◌≤◌, ◌<◌, length, Ok, Option}
 use Rattle.std.proofs.Math.Path.{refl, sym, ap}
 use Rattle.std.proofs.Common.{◌∙◌, subst, arith, take_at, length-take-le}
-use Rattle.std.proofs.Math.Option.{Option}
+use Rattle.std.specs.Prelude as core
+use Rattle.std.proofs.lemmas.Option.{same_Some, none-some}
 use Rattle.std.proofs.Math.ListN.{take, drop}
 use borrow.Author.Tests.{le-leb, lt-leb}
 use Rattle.lists.specs.Judge.{Judged, not_allowed, surplus, unfinished, verdict, judge}
@@ -10,45 +11,31 @@ use Rattle.lists.specs.Next.{Pivot, finish, raised}
 use Rattle.lists.specs.Next as next
 use Rattle.lists.proofs.CodeLaws.{copied_length}
 use Rattle.rules.specs.declared.answer.Answer.{Answer}
-use Rattle.rules.specs.declared.answer.Answer.TheVariants.{ListWritten, TooShort, NotAllowed, Surplus, NotComplete, NoLaterList}
+use Rattle.rules.specs.declared.answer.Answer.TheVariants.{ListWritten, TooShort, NoLaterList}
 use Rattle.rules.specs.declared.table.Table.{Table}
-use Rattle.rules.specs.declared.table.Taken.TheVariants.{Accepted, Refused}
-use Rattle.rules.specs.declared.table.TableRead.{TableRead}
 use Rattle.rules.specs.declared.world.World.{World}
 use Rattle.rules.specs.Limits.{max_list}
-use Rattle.rules.specs.Table.{accepted, Read, read_table, read_of}
+use Rattle.rules.specs.Table.{read_table}
 use Rattle.rules.proofs.TableLaws.{read-within}
 use Rattle.rules.specs.Turn.{start}
 use Rattle.rules.specs.Judge.{Verdict, step, Given, untouched}
 use Rattle.rules.specs.Walk.{decisions, left, hand_over, first_table, first_of, next_list, next_judged, next_table, next_of}
-use Rattle.turns_run.specs.declared.End.{End}
-use Rattle.turns_run.specs.declared.End.TheVariants as end
-use Rattle.turns_run.specs.Run.{ran_of}
-use Rattle.turns.specs.Start.{was_refused, was_accepted}
 use Rattle.walk.specs.declared.Completion.{Completion}
 use Rattle.walk.specs.declared.Mark.{Mark}
-use Rattle.walk.specs.declared.Passed.{Passed}
 use Rattle.theorems.specs.Falling.{Good}
 use Rattle.theorems.proofs.Length.{start_left, left_some}
 use Rattle.theorems.proofs.Accepted.{start_good}
-use Rattle.walk.specs.Says.{Completable, Continues, Completes, pivot_of, Started, PassSays, Raisable, raised_to}
+use Rattle.walk.specs.Says.{Completable, Continues, Completes, pivot_of, Started, fault, Whole, Raisable, raised_to}
 
-module _ (from buffer : List ℕ) (n : ℕ) (h : n ≤ length from) where
-  long : length (take n from) ≡ n
-  long = length-take-le n from h
-
-  pub gave_fits : (out : List ℕ) → n ≤ length buffer → out ≡ take n from ++ drop n buffer → record { answer = ListWritten n; buffer = out } ≡ hand_over (take n from) buffer
+-- a list that is made, where it fits and where it does not
+module _ (made buffer : List ℕ) where
+  pub gave_fits : length made ≤ length buffer → record { answer = ListWritten (length made); buffer = made ++ drop (length made) buffer } ≡ hand_over made buffer
   unfolding hand_over
-  gave_fits out l e =
-      (λ i. record { answer = ListWritten n; buffer = e i })
-      ∙ ap (λ (k : ℕ). record { answer = ListWritten k; buffer = take n from ++ drop k buffer }) (sym long)
-      ∙ sym (rw (hand_over, le-leb (length (take n from)) (length buffer) (omega (arith, long, l))))
+  gave_fits h = sym (rw (hand_over, le-leb (length made) (length buffer) h))
 
-  pub gave_short : length buffer < n → untouched (TooShort n) buffer ≡ hand_over (take n from) buffer
+  pub gave_short : length buffer < length made → untouched (TooShort (length made)) buffer ≡ hand_over made buffer
   unfolding hand_over
-  gave_short l =
-      ap (λ (k : ℕ). untouched (TooShort k) buffer) (sym long)
-      ∙ sym (rw (hand_over, lt-leb (length (take n from)) (length buffer) (omega (arith, long, l))))
+  gave_short h = sym (rw (hand_over, lt-leb (length made) (length buffer) h))
 
 -- an accepted table has few decisions before it
 pub left_few : (table : Table) → Started table → left table (start table) ≤ max_list
@@ -99,60 +86,47 @@ module _ (table : Table) (l : List ℕ) (k : Mark) (h : Raisable table l k) (s :
       ∙ ap (λ (z : List ℕ). take i z ++ raised (step table) decisions (left table) k.world k.decision) copied
       ∙ ap (λ (z : List ℕ). z ++ raised (step table) decisions (left table) k.world k.decision) (take_at (take i l) (drop i s) i (length-take-le i l in_list))
 
--- what the table's reader hands back, and what the whole call then comes to
-module _ (bs : List ℕ) (read : TableRead) (e : read ≡ read_of (read_table bs)) where
-  pub started : read.taken ≡ Accepted → Started read.table
-  started t = let h = read-within bs read.table (was_accepted bs read e t) in record { within = h.0; some = h.1 }
-
-  module _ (buffer : List ℕ) where
-    pub first-refused : (a : Answer) → read.taken ≡ Refused a → untouched a buffer ≡ first_of bs buffer
-    unfolding first_of first_table
-    first-refused a t = sym (ap (λ (r : Read). first_table r buffer) (was_refused bs read e a t))
-
-    pub first_accepted : read.taken ≡ Accepted → first_table (accepted read.table) buffer ≡ first_of bs buffer
-    unfolding first_of
-    first_accepted t = sym (ap (λ (r : Read). first_table r buffer) (was_accepted bs read e t))
-
-    module _ (list : List ℕ) where
-      pub next-refused : (a : Answer) → read.taken ≡ Refused a → untouched a buffer ≡ next_of bs list buffer
-      unfolding next_of next_table
-      next-refused a t = sym (ap (λ (r : Read). next_table r list buffer) (was_refused bs read e a t))
-
-      pub next_accepted : read.taken ≡ Accepted → next_table (accepted read.table) list buffer ≡ next_of bs list buffer
-      unfolding next_of
-      next_accepted t = sym (ap (λ (r : Read). next_table r list buffer) (was_accepted bs read e t))
+-- a table that was read has what its walk needs
+pub started : (bs : List ℕ) (table : Table) → read_table bs ≡ Ok table → Started table
+started bs table e = let h = read-within bs table e in record { within = h.0; some = h.1 }
 
 -- an accepted table: its first list, and what is given by how a list ends
-pub first-given : (table : Table) (buffer : List ℕ) → hand_over (next.first_of (step table) decisions (left table) (start table)) buffer ≡ first_table (accepted table) buffer
+pub first-given : (table : Table) (buffer : List ℕ) → hand_over (next.first_of (step table) decisions (left table) (start table)) buffer ≡ first_table (Ok table) buffer
 unfolding first_table
 first-given table buffer = refl
 
 module _ (table : Table) (buffer list : List ℕ) where
-  abbrev pub given_by : End → Option (List ℕ) → Given
-  given_by (end.NotAllowed i) found = untouched (NotAllowed i) buffer
-  given_by (end.Surplus i) found = untouched (Surplus i) buffer
-  given_by end.Unfinished found = untouched NotComplete buffer
-  given_by (end.Verdict a) found = next_list found buffer
+  abbrev j : Judged World Verdict
+  j = judge (step table) 0 (start table) list
 
-  by_end : (j : Judged World Verdict) (found : Option (List ℕ)) → given_by (ran_of j).end found ≡ next_judged j found buffer
-  unfolding next_judged ran_of
-  by_end (not_allowed i) found = refl
-  by_end (surplus i) found = refl
-  by_end (unfinished v) found = refl
-  by_end (verdict v) found = refl
+  faulty_given : (j : Judged World Verdict) (found : Option (List ℕ)) (a : Answer) → fault j ≡ Some a → untouched a buffer ≡ next_judged j found buffer
+  unfolding next_judged
+  faulty_given (not_allowed i) found a e = ap (λ (x : Answer). untouched x buffer) (sym (same_Some _ a e))
+  faulty_given (surplus i) found a e = ap (λ (x : Answer). untouched x buffer) (sym (same_Some _ a e))
+  faulty_given (unfinished w) found a e = ap (λ (x : Answer). untouched x buffer) (sym (same_Some _ a e))
+  faulty_given (verdict v) found a e = absurd (none-some a e)
 
-  module _ (p : Passed) (says : PassSays table list p) where
-    pub next-given : (x : End) → p.end ≡ x → given_by x (finish (step table) decisions (left table) list (pivot_of p.mark)) ≡ next_table (accepted table) list buffer
-    unfolding next_table next.next_of
-    next-given x q =
-        ap (λ (y : End). given_by y (finish (step table) decisions (left table) list (pivot_of p.mark))) (sym q ∙ says.ends)
-        ∙ by_end (judge (step table) 0 (start table) list) (finish (step table) decisions (left table) list (pivot_of p.mark))
-        ∙ ap (λ (z : Pivot World). next_judged (judge (step table) 0 (start table) list) (finish (step table) decisions (left table) list z) buffer) says.pivot
+  whole_given : (j : Judged World Verdict) (found : Option (List ℕ)) → fault j ≡ None → next_list found buffer ≡ next_judged j found buffer
+  unfolding next_judged
+  whole_given (not_allowed i) found e = absurd (none-some _ (sym e))
+  whole_given (surplus i) found e = absurd (none-some _ (sym e))
+  whole_given (unfinished w) found e = absurd (none-some _ (sym e))
+  whole_given (verdict v) found e = refl
 
-    pub next-none : (a : Answer) → p.end ≡ end.Verdict a → p.mark.found ≡ false → untouched NoLaterList buffer ≡ next_table (accepted table) list buffer
-    unfolding next_list
-    next-none a q f = let z = next-given (end.Verdict a) q in rw f at z
+  pub next_faulty : (a : Answer) → fault j ≡ Some a → untouched a buffer ≡ next_table (Ok table) list buffer
+  unfolding next_table
+  next_faulty a e = faulty_given j _ a e
 
-    pub next-raised : (a : Answer) → p.end ≡ end.Verdict a → p.mark.found ≡ true → (g : Given) → g ≡ hand_over (raised_to table list p.mark) buffer → g ≡ next_table (accepted table) list buffer
-    unfolding next_list
-    next-raised a q f g h = let z = next-given (end.Verdict a) q in h ∙ rw f at z
+  next_whole : (m : core.Option Mark) → Whole table list m → next_list (finish (step table) decisions (left table) list (pivot_of m)) buffer ≡ next_table (Ok table) list buffer
+  unfolding next_table next.next_of
+  next_whole m says =
+      ap (λ (z : Pivot World). next_list (finish (step table) decisions (left table) list z) buffer) says.pivot
+      ∙ whole_given j _ says.whole
+
+  pub next-none : Whole table list None → untouched NoLaterList buffer ≡ next_table (Ok table) list buffer
+  unfolding next_list
+  next-none says = next_whole None says
+
+  pub next-raised : (m : Mark) → Whole table list (Some m) → (g : Given) → g ≡ hand_over (raised_to table list m) buffer → g ≡ next_table (Ok table) list buffer
+  unfolding next_list
+  next-raised m says g h = h ∙ next_whole (Some m) says

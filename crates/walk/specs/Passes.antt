@@ -1,112 +1,122 @@
 -- One pass over a list, and the list that is raised at its last mark.
-use Rattle.std.specs.Prelude.{◌≡◌, refl, ◌⊎◌, true, false, List, length, drop, get_or}
+use Rattle.std.specs.Prelude.{◌≡◌, refl, ◌⊎◌, true, false, Option, Some, None, Result, Ok, Err, List, length, drop, get_or}
+use Rattle.std.specs.Option.{is_some}
 use Rattle.std.proofs.Math.Path.{sym}
 use Rattle.std.proofs.Common.{◌∙◌, ap, subst, inl, inr, arith, lt-ltb, le-ltb}
 use Rattle.std.proofs.lemmas.Bool.{false≢true}
 use Prim.Native.Nat.{ℕ, suc, ◌+◌, ◌-◌, ◌≤◌, ◌<◌}
 use Rattle.std.proofs.Math.Numerals.{add-one}
-use Rattle.lists.specs.Rules.{refused, wants}
-use Rattle.lists.specs.Judge.{Judged}
+use Rattle.lists.specs.Rules.{done, wants}
 use Rattle.lists.specs.Greedy.{seek, larger}
-use Rattle.lists.specs.Next.{Pivot, pass}
-use Rattle.lists.proofs.CodeLaws.{pass_end, pass-refused, pass-done, pass-wants, judge_end_lem, judge-refused, judge_last, judge_surplus, judge-wants}
+use Rattle.lists.specs.Next.{Pivot, at, pass}
+use Rattle.lists.proofs.CodeLaws.{pass-done, pass-wants, judge_end_lem, judge-refused, judge_last, judge_surplus, judge-wants}
 use Rattle.rules.specs.declared.answer.Answer.{Answer}
+use Rattle.rules.specs.declared.answer.Answer.TheVariants.{NotAllowed, Surplus, NotComplete}
 use Rattle.rules.specs.declared.table.Table.{Table}
 use Rattle.rules.specs.declared.world.World.{World}
 use Rattle.rules.specs.Turn.{is_allowed, start}
 use Rattle.rules.specs.Judge.{Verdict, step}
 use Rattle.rules.specs.Walk.{decisions, left}
-use Rattle.turns_run.specs.declared.End.TheVariants as end
-use Rattle.turns_run.specs.Run.{ran_of}
+use Rattle.turns_steps.specs.Step.{below}
+use Rattle.turns_run.specs.declared.Ran.{Ran}
+use Rattle.turns_run.specs.declared.Refusal.{Refusal}
 use Rattle.walk.specs.declared.Mark.{Mark}
 use Rattle.theorems.proofs.Machine.{keeps, falls}
 use Rattle.theorems.proofs.Accepted.{start_good}
-use Rattle.walk.specs.Decided.{least_is}
-use Rattle.walk.specs.Says.{stage_at, pivot_of, Marked, Started, Placed, Passing, PassSays}
+use Rattle.walk.specs.Decided.{least_is, below_some, below_past}
+use Rattle.walk.specs.Says.{stage_at, stage_of, pivot_of, At, Marked, Marks, Started, Placed, Passing, PassSays, fault}
 
 -- a larger decision, or none
-module _ (m : Mark) (i : ℕ) (w : World) (d e : ℕ) (s : e ≡ seek (is_allowed w.asked w.threads) (decisions - (d + 1)) (d + 1)) where
-  found : (table : Table) → e ≡ larger (step table) decisions w d
+module _ (m : Option Mark) (i : ℕ) (w : World) (d : ℕ) (o : Option ℕ) (s : o ≡ below decisions (seek (is_allowed w.asked w.threads) (decisions - (d + 1)) (d + 1))) where
+  abbrev sought : ℕ
+  sought = seek (is_allowed w.asked w.threads) (decisions - (d + 1)) (d + 1)
+
+  found : (table : Table) → sought ≡ larger (step table) decisions w d
   unfolding larger
-  found table = let t : e ≡ seek (is_allowed w.asked w.threads) (decisions - suc d) (suc d) = rw add-one at s in t ∙ least_is table w (decisions - suc d) (suc d)
+  found table = let same : d + 1 ≡ suc d = add-one d in rw same (least_is table w (decisions - suc d) (suc d))
 
-  pub better_found : e < decisions → Marked m i w d (record { found = true; at = i; world = w; decision = e })
-  better_found h = record {
-    is = λ table. rw (← found table, lt-ltb e decisions h);
-    from = inr (refl, refl);
-  }
+  pub better_found : (e : ℕ) → o ≡ Some e → Marked m i w d (Some (record { at = i; world = w; decision = e }))
+  better_found e f =
+      let b = below_some decisions sought e (sym s ∙ f) in
+      record { is = λ table. rw (← found table, lt-ltb sought decisions b.1) (ap (at i w) (sym b.0)); from = inr (_, refl, refl, refl) }
 
-  pub better-kept : decisions ≤ e → Marked m i w d m
-  better-kept h = record { is = λ table. rw (← found table, le-ltb e decisions h); from = inl refl }
+  pub better-kept : o ≡ None → Marked m i w d m
+  better-kept f =
+      let b = below_past decisions sought (sym s ∙ f) in
+      record { is = λ table. rw (← found table, le-ltb sought decisions b); from = inl refl }
 
-module _ (table : Table) (begun : Started table) where
-  pub passing_start : (l : List ℕ) (m : Mark) → m.found ≡ false → Passing table l (start table) m 0
-  passing_start l m e = record {
+module _ (table : Table) (begun : Started table) (l : List ℕ) where
+  pub passing_start : Passing table l (start table) None 0
+  passing_start = record {
     in_list = omega arith;
     good = start_good table begun.within begun.some;
     few = omega arith;
     judged = refl;
-    pivot = rw e;
-    placed = λ f. absurd (false≢true (sym e ∙ f));
+    pivot = refl;
+    placed = tt;
   }
 
-  module _ (l : List ℕ) (w : World) (m : Mark) (i : ℕ) (p : Passing table l w m i) where
-    pub passing_end : length l ≤ i → PassSays table l (record { end = end.Unfinished; mark = m })
-    unfolding ran_of
-    passing_end h = record {
-      ends = sym (ap (λ (j : Judged World Verdict). (ran_of j).end) (p.judged ∙ judge_end_lem (step table) w l i h));
-      pivot = sym (p.pivot ∙ pass_end (step table) decisions (left table) w l i (pivot_of m) h);
-      placed = p.placed;
-    }
+  module _ (w : World) (m : Option Mark) (i : ℕ) (p : Passing table l w m i) where
+    pub passing_end : length l ≤ i → PassSays table l (Err NotComplete)
+    passing_end h = ap fault (p.judged ∙ judge_end_lem (step table) w l i h)
 
-    pub passing_refused : i < length l → step table w (get_or l i 0) ≡ refused → PassSays table l (record { end = end.NotAllowed i; mark = m })
-    unfolding ran_of
-    passing_refused h e = record {
-      ends = sym (ap (λ (j : Judged World Verdict). (ran_of j).end) (p.judged ∙ judge-refused (step table) w l i h e));
-      pivot = sym (p.pivot ∙ pass-refused (step table) decisions (left table) w l i (pivot_of m) h e);
-      placed = p.placed;
-    }
+    pub passing_refused : i < length l → (o : Result Ran Refusal) (r : Refusal) → stage_of o ≡ step table w (get_or l i 0) → o ≡ Err r → PassSays table l (Err (NotAllowed i))
+    passing_refused h o r e f = ap fault (p.judged ∙ judge-refused (step table) w l i h (sym e ∙ ap stage_of f))
 
-    module _ (b : Mark) (x : Marked m i w (get_or l i 0) b) (h : i < length l) where
-      there : b.found ≡ true → Placed table l b.at b.world
+    module _ (b : Option Mark) (x : Marked m i w (get_or l i 0) b) (h : i < length l) (o : Result Ran Refusal) (r : Ran) (e : stage_of o ≡ step table w (get_or l i 0)) (f : o ≡ Ok r) where
+      there : Marks table l b
       there = go x.from
         where
           here : Placed table l i w
           here = record { inside = h; good = p.good; few = p.few }
 
-          go : (b ≡ m) ⊎ ((b.at ≡ i) × (b.world ≡ w)) → b.found ≡ true → Placed table l b.at b.world
-          go (inl e) = subst (λ (y : Mark). y.found ≡ true → Placed table l y.at y.world) (sym e) p.placed
-          go (inr e) = λ f. subst (λ (k : ℕ). Placed table l k b.world) (sym e.0) (subst (Placed table l i) (sym e.1) here)
+          go : (b ≡ m) ⊎ At i w b → Marks table l b
+          go (inl q) = subst (Marks table l) (sym q) p.placed
+          go (inr y) =
+              let n : Mark = y.0 in
+              subst (Marks table l) (sym y.1) (subst (λ (k : ℕ). Placed table l k n.world) (sym y.2) (subst (Placed table l i) (sym y.3) here))
 
-      pub passing_ends : (a : Answer) (v : World) → step table w (get_or l i 0) ≡ stage_at (end.Verdict a) v → i + 1 ≡ length l → PassSays table l (record { end = end.Verdict a; mark = b })
-      unfolding ran_of
-      passing_ends a v e q = record {
-        ends = sym (ap (λ (j : Judged World Verdict). (ran_of j).end) (p.judged ∙ judge_last (step table) w l i _ q e));
-        pivot = x.is table ∙ sym (p.pivot ∙ pass-done (step table) decisions (left table) w l i (pivot_of m) _ h e);
-        placed = there;
-      }
+      -- where the decision leads
+      stage : step table w (get_or l i 0) ≡ stage_at r.verdict r.world
+      stage = sym e ∙ ap stage_of f
 
-      pub passing_surplus : (a : Answer) (v : World) → step table w (get_or l i 0) ≡ stage_at (end.Verdict a) v → (i + 1 ≡ length l → ⊥)
-          → PassSays table l (record { end = end.Surplus (i + 1); mark = b })
-      unfolding ran_of
-      passing_surplus a v e q = record {
-        ends = sym (ap (λ (j : Judged World Verdict). (ran_of j).end) (p.judged ∙ judge_surplus (step table) w l i _ (omega arith) e));
-        pivot = x.is table ∙ sym (p.pivot ∙ pass-done (step table) decisions (left table) w l i (pivot_of m) _ h e);
-        placed = there;
-      }
+      ends : is_some r.verdict ≡ true → (v : Verdict) × (step table w (get_or l i 0) ≡ done v)
+      ends t = go r.verdict stage t
+        where
+          go : (y : Option Answer) → step table w (get_or l i 0) ≡ stage_at y r.world → is_some y ≡ true → (v : Verdict) × (step table w (get_or l i 0) ≡ done v)
+          go None q t = absurd (false≢true t)
+          go (Some a) q t = (_, q)
 
-      pub passing_wants : (v : World) → step table w (get_or l i 0) ≡ wants v → Passing table l v b (i + 1)
-      passing_wants v e =
-          let f = falls table begun.within w (get_or l i 0) v p.good e in
-          let o = p.few in
+      pub passing_ends : is_some r.verdict ≡ true → length l ≤ i + 1 → PassSays table l (Ok b)
+      passing_ends t q =
+          let v = ends t in
+          let last : i + 1 ≡ length l = omega (arith, h, q) in
           record {
-            in_list = omega (arith, h);
-            good = keeps table begun.within w (get_or l i 0) v p.good e;
-            few = omega (arith, f, o);
-            judged = p.judged ∙ judge-wants (step table) w l i v h e;
-            pivot =
-                p.pivot
-                ∙ pass-wants (step table) decisions (left table) w l i (pivot_of m) v h e
-                ∙ ap (λ (z : Pivot World). pass (step table) decisions (left table) z (i + 1) v (drop (i + 1) l)) (sym (x.is table));
+            whole = ap fault (p.judged ∙ judge_last (step table) w l i v.0 last v.1);
+            pivot = x.is table ∙ sym (p.pivot ∙ pass-done (step table) decisions (left table) w l i (pivot_of m) v.0 h v.1);
             placed = there;
           }
+
+      pub passing_surplus : is_some r.verdict ≡ true → i + 1 < length l → PassSays table l (Err (Surplus (i + 1)))
+      passing_surplus t q = let v = ends t in ap fault (p.judged ∙ judge_surplus (step table) w l i v.0 q v.1)
+
+      pub passing_wants : is_some r.verdict ≡ false → Passing table l r.world b (i + 1)
+      passing_wants t =
+          let on : step table w (get_or l i 0) ≡ wants r.world = go r.verdict stage t in
+          let less = falls table begun.within w (get_or l i 0) r.world p.good on in
+          let few = p.few in
+          record {
+            in_list = omega (arith, h);
+            good = keeps table begun.within w (get_or l i 0) r.world p.good on;
+            few = omega (arith, less, few);
+            judged = p.judged ∙ judge-wants (step table) w l i r.world h on;
+            pivot =
+                p.pivot
+                ∙ pass-wants (step table) decisions (left table) w l i (pivot_of m) r.world h on
+                ∙ ap (λ (z : Pivot World). pass (step table) decisions (left table) z (i + 1) r.world (drop (i + 1) l)) (sym (x.is table));
+            placed = there;
+          }
+        where
+          go : (y : Option Answer) → step table w (get_or l i 0) ≡ stage_at y r.world → is_some y ≡ false → step table w (get_or l i 0) ≡ wants r.world
+          go None q t = q
+          go (Some a) q t = absurd (false≢true (sym t))

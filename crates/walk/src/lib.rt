@@ -1,18 +1,16 @@
 // Every run of a table, in order: the smallest complete list, and the smallest one above another.
 #![tactic(auto)]
 
-ghost use Rattle.std.specs.Prelude.{◌≡◌, ◌++◌, ◌≤◌, length, take, drop};
+ghost use Rattle.std.specs.Prelude.{◌≡◌, Ok};
 ghost use Rattle.rules.specs.Judge.{step};
-ghost use Rattle.rules.specs.Table.{accepted};
 ghost use Rattle.rules.specs.Walk.{hand_over, first_table, first_of, next_table, next_of};
-ghost use Rattle.walk.specs.Says.{is_over, stage_of, Extends, Advances, Completable, Continues, Completes, Marked, Started, PassSays, Raisable, raised_to};
+ghost use Rattle.walk.specs.Says.{stage_of, Extends, Advances, Completable, Continues, Completes, Marked, Started, PassSays, Raisable, raised_to};
 
-use clocks::THREADS;
 use rules::answer::Answer;
-use rules::table::{LIST, Table, Taken};
+use rules::table::{LIST, Table};
 use rules::world::World;
 use turns::start;
-use turns_run::{End, Ran, run};
+use turns_run::{Ran, Refusal, run};
 use turns_steps::least;
 use turns_table::read_table;
 
@@ -25,45 +23,18 @@ pub struct Completion {
     pub at: usize,
 }
 
-// A completion with one decision more, and whether another is wanted.
-#[derive(Clone, Copy)]
-pub struct Further {
-    pub completion: Completion,
-    pub wanted: bool,
-}
-
-// The last place so far where a larger decision is allowed, the world there, and that decision.
+// A place of a list where a larger decision is allowed, the world there, and that decision.
 #[derive(Clone, Copy)]
 pub struct Mark {
-    pub found: bool,
     pub at: usize,
     pub world: World,
     pub decision: u8,
 }
 
-// How a list ends, and its last mark.
-#[derive(Clone, Copy)]
-pub struct Passed {
-    pub end: End,
-    pub mark: Mark,
-}
-
-fn decide(table: Table, world: World, d: u8) -> Ran
+fn decide(table: Table, world: World, d: u8) -> Result<Ran, Refusal>
     ensures { stage_of result ≡ step table world d }
 {
-    let list = [d];
-    run(table, world, &list)
-}
-
-fn is_over(end: End) -> bool
-    ensures { result ≡ is_over end }
-{
-    match end {
-        End::NotAllowed(_) => true,
-        End::Surplus(_) => true,
-        End::Unfinished => false,
-        End::Verdict(_) => true,
-    }
+    run(table, world, &[d])
 }
 
 // The decision d, in place, so that a call keeps no copy of the completion. A list that is full stays as it is; none that is completed ever is.
@@ -75,32 +46,25 @@ fn extend(c: &mut Completion, d: u8) -> bool
         return false;
     }
     c.list[at] = d;
-    let ran = decide(c.table, c.world, d);
-    let end = ran.end;
-    c.world = ran.world;
     c.at = at + 1;
-    !is_over(end)
-}
-
-fn extended(c: Completion, d: u8) -> Further
-    ensures { Extends c d result.completion result.wanted }
-{
-    let mut u = c;
-    let wanted = extend(&mut u, d);
-    Further {
-        completion: u,
-        wanted: wanted,
+    match decide(c.table, c.world, d) {
+        Ok(ran) => {
+            c.world = ran.world;
+            ran.verdict.is_none()
+        }
+        Err(_) => false,
     }
 }
 
 // The smallest allowed decision.
 fn advance(c: &mut Completion) -> bool
+    requires { Completable c.old }
     ensures { Advances c.old c.new result }
 {
-    let asked = c.world.asked;
-    let threads = c.world.threads;
-    let d = least(asked, threads, 0) as u8;
-    extend(c, d)
+    match least(c.world.asked, c.world.threads, 0) {
+        Some(d) => extend(c, d),
+        None => false,
+    }
 }
 
 // It calls itself, once for each decision. All of it is lent, so that a call takes little stack.
@@ -113,47 +77,24 @@ fn complete(c: &mut Completion)
     }
 }
 
-fn completed(c: Completion) -> Completion
-    requires { Completable c }
-    ensures { Completes c result }
-{
-    let mut u = c;
-    complete(&mut u);
-    u
-}
-
 // The decision d, and then the smallest completion.
-fn continued(c: Completion, d: u8) -> Completion
+fn continued(mut c: Completion, d: u8) -> Completion
     requires { Completable c }
     ensures { Continues c d result }
 {
-    let r = extended(c, d);
-    let u = r.completion;
-    if r.wanted {
-        return completed(u);
+    if extend(&mut c, d) {
+        complete(&mut c);
     }
-    u
-}
-
-// The first n bytes of `from` into `list`.
-fn copy(from: &[u8], n: usize, list: &mut [u8])
-    requires { (n ≤ length from.now) × (n ≤ length list.old) }
-    ensures { list.new ≡ take n from.now ++ drop n list.old }
-{
-    let mut i = 0;
-    while i < n {
-        list[i] = from[i];
-        i += 1;
-    }
+    c
 }
 
 // The list is written if it fits; else its length is told, and nothing is written.
-fn hand_over(from: &[u8], n: usize, list: &mut [u8]) -> Answer
-    requires { n ≤ length from.now }
-    ensures { record { answer = result; buffer = list.new } ≡ hand_over (take n from.now) list.old }
+fn hand_over(made: &[u8], list: &mut [u8]) -> Answer
+    ensures { record { answer = result; buffer = list.new } ≡ hand_over made.now list.old }
 {
+    let n = made.len();
     if n <= list.len() {
-        copy(from, n, list);
+        list[..n].copy_from_slice(made);
         return Answer::ListWritten(n);
     }
     Answer::TooShort(n)
@@ -162,104 +103,62 @@ fn hand_over(from: &[u8], n: usize, list: &mut [u8]) -> Answer
 // The smallest complete list of a table that was accepted.
 fn first_of(table: Table, list: &mut [u8]) -> Answer
     requires { Started table }
-    ensures { record { answer = result; buffer = list.new } ≡ first_table (accepted table) list.old }
+    ensures { record { answer = result; buffer = list.new } ≡ first_table (Ok table) list.old }
 {
-    let empty = [0u8; LIST];
-    let c = Completion {
-        table: table,
+    let mut c = Completion {
+        table,
         world: start(table),
-        list: empty,
+        list: [0; LIST],
         at: 0,
     };
-    let r = completed(c);
-    let made = r.list;
-    let n = r.at;
-    hand_over(&made, n, list)
+    complete(&mut c);
+    hand_over(&c.list[..c.at], list)
 }
 
 pub fn first(table: &[u8], list: &mut [u8]) -> Answer
     ensures { record { answer = result; buffer = list.new } ≡ first_of table.now list.old }
 {
-    let read = read_table(table);
-    let taken = read.taken;
-    let t = read.table;
-    let Taken::Refused(a) = taken else {
-        return first_of(t, list);
-    };
-    a
+    match read_table(table) {
+        Ok(read) => first_of(read, list),
+        Err(refusal) => refusal,
+    }
 }
 
-// The mark after the decision d at index i.
-fn better(m: Mark, i: usize, world: World, d: u8) -> Mark
+// The last mark after the decision d at index i.
+fn better(m: Option<Mark>, i: usize, world: World, d: u8) -> Option<Mark>
     ensures { Marked m i world d result }
 {
-    let asked = world.asked;
-    let threads = world.threads;
-    let e = least(asked, threads, (d as usize) + 1);
-    if e < THREADS {
-        return Mark {
-            found: true,
+    match least(world.asked, world.threads, d as usize + 1) {
+        Some(e) => Some(Mark {
             at: i,
-            world: world,
-            decision: e as u8,
-        };
+            world,
+            decision: e,
+        }),
+        None => m,
     }
-    m
 }
 
-// One pass over a list: how it ends, and its last mark.
-fn pass(table: Table, list: &[u8]) -> Passed
+// One pass over a list: its last mark, if it has one, or why the list is not complete.
+fn pass(table: Table, list: &[u8]) -> Result<Option<Mark>, Answer>
     requires { Started table }
     ensures { PassSays table list.now result }
 {
-    let begun = start(table);
-    let mut world = begun;
-    let mut mark = Mark {
-        found: false,
-        at: 0,
-        world: begun,
-        decision: 0,
-    };
-    let mut i = 0;
-    while i < list.len() {
-        let d = list[i];
-        let b = better(mark, i, world, d);
-        let ran = decide(table, world, d);
-        let end = ran.end;
-        let next = ran.world;
-        match end {
-            End::NotAllowed(_) => {
-                return Passed {
-                    end: End::NotAllowed(i),
-                    mark: mark,
-                };
+    let mut world = start(table);
+    let mut mark = None;
+    for (i, &d) in list.iter().enumerate() {
+        mark = better(mark, i, world, d);
+        let Ok(ran) = decide(table, world, d) else {
+            return Err(Answer::NotAllowed(i));
+        };
+        if ran.verdict.is_some() {
+            if i + 1 < list.len() {
+                return Err(Answer::Surplus(i + 1));
             }
-            End::Surplus(_) => {
-                return Passed {
-                    end: End::NotAllowed(i),
-                    mark: mark,
-                };
-            }
-            End::Unfinished => {
-                mark = b;
-                world = next;
-            }
-            End::Verdict(_) => {
-                if i + 1 == list.len() {
-                    return Passed { end: end, mark: b };
-                }
-                return Passed {
-                    end: End::Surplus(i + 1),
-                    mark: b,
-                };
-            }
+            return Ok(mark);
         }
-        i += 1;
+        world = ran.world;
     }
-    Passed {
-        end: End::Unfinished,
-        mark: mark,
-    }
+    Err(Answer::NotComplete)
 }
 
 // The list up to the mark, the mark's decision, and then the smallest completion.
@@ -267,52 +166,35 @@ fn raise(table: Table, list: &[u8], m: Mark, out: &mut [u8]) -> Answer
     requires { Raisable table list.now m }
     ensures { record { answer = result; buffer = out.new } ≡ hand_over (raised_to table list.now m) out.old }
 {
-    let mut kept = [0u8; LIST];
-    let at = m.at;
-    let d = m.decision;
-    let world = m.world;
-    copy(list, at, &mut kept);
+    let mut kept = [0; LIST];
+    kept[..m.at].copy_from_slice(&list[..m.at]);
     let c = Completion {
-        table: table,
-        world: world,
+        table,
+        world: m.world,
         list: kept,
-        at: at,
+        at: m.at,
     };
-    let r = continued(c, d);
-    let made = r.list;
-    let n = r.at;
-    hand_over(&made, n, out)
+    let r = continued(c, m.decision);
+    hand_over(&r.list[..r.at], out)
 }
 
 // The smallest complete list above another, of a table that was accepted.
 fn next_of(table: Table, list: &[u8], out: &mut [u8]) -> Answer
     requires { Started table }
-    ensures { record { answer = result; buffer = out.new } ≡ next_table (accepted table) list.now out.old }
+    ensures { record { answer = result; buffer = out.new } ≡ next_table (Ok table) list.now out.old }
 {
-    let p = pass(table, list);
-    let end = p.end;
-    let m = p.mark;
-    match end {
-        End::NotAllowed(i) => Answer::NotAllowed(i),
-        End::Surplus(i) => Answer::Surplus(i),
-        End::Unfinished => Answer::NotComplete,
-        End::Verdict(_) => {
-            if m.found {
-                return raise(table, list, m, out);
-            }
-            Answer::NoLaterList
-        }
+    match pass(table, list) {
+        Ok(Some(m)) => raise(table, list, m, out),
+        Ok(None) => Answer::NoLaterList,
+        Err(a) => a,
     }
 }
 
 pub fn next(table: &[u8], list: &[u8], out: &mut [u8]) -> Answer
     ensures { record { answer = result; buffer = out.new } ≡ next_of table.now list.now out.old }
 {
-    let read = read_table(table);
-    let taken = read.taken;
-    let t = read.table;
-    let Taken::Refused(a) = taken else {
-        return next_of(t, list, out);
-    };
-    a
+    match read_table(table) {
+        Ok(read) => next_of(read, list, out),
+        Err(refusal) => refusal,
+    }
 }

@@ -1,5 +1,5 @@
--- A completion of an accepted table's run: its list is the smallest, its larger decisions are told, and its end is the judge's.
-use Rattle.std.specs.Prelude.{◌≡◌, refl, true, length, take}
+-- A completion of an accepted table's run: its list is the smallest, its larger decisions are told, and its verdict is the judge's.
+use Rattle.std.specs.Prelude.{◌≡◌, refl, true, Option, Some, None, Ok, map, length, take}
 use Rattle.std.proofs.Common.{sym, ◌∙◌, subst, arith, take-suc-set}
 use Rattle.std.proofs.Math.Path.{ap}
 use Rattle.std.proofs.lemmas.Bool.{false≢true}
@@ -11,7 +11,7 @@ use Rattle.std.proofs.Math.Seq.{append_snoc}
 use Rattle.lists.specs.Rules.{Outcome, refused, done, wants, allowedb, allowed}
 use Rattle.lists.specs.Judge.{verdict, judge}
 use Rattle.lists.specs.Greedy.{larger, smallest}
-use Rattle.lists.proofs.Greedy.{smallest-allowed}
+use Rattle.lists.proofs.Greedy.{smallest-allowed, allowed_below}
 use Rattle.lists.specs.Next.{raised}
 use Rattle.lists.proofs.CodeLaws.{raised-smallest, raised_last, raised-wants}
 use Rattle.rules.specs.declared.table.Table.{Table}
@@ -20,62 +20,81 @@ use Rattle.rules.specs.Limits.{max_list}
 use Rattle.rules.specs.TableLaws.{Within}
 use Rattle.rules.specs.Judge.{Verdict, step}
 use Rattle.rules.specs.Walk.{decisions, left}
-use Rattle.turns_run.specs.declared.End.{End}
-use Rattle.turns_run.specs.declared.End.TheVariants as end
+use Rattle.rules.specs.declared.answer.Answer.{Answer}
+use Rattle.turns_steps.specs.Step.{below, below_there}
 use Rattle.turns_run.specs.declared.Ran.{Ran}
-use Rattle.turns_run.specs.Run.{ran_of}
 use Rattle.theorems.specs.Falling.{Good}
 use Rattle.theorems.proofs.Machine.{bounded, some_allowed, keeps, falls}
 use Rattle.theorems.proofs.Length.{left_some}
+use Rattle.rules.specs.Turn.{is_allowed}
+use Rattle.lists.specs.Greedy.{seek}
 use Rattle.walk.specs.Decided.{least_is}
 use Rattle.walker.specs.declared.Path.{Path}
-use Rattle.walker.specs.Walking.{least_from, ran_by, with, completed}
-use Rattle.walker.specs.Steps.{first_on, first-over}
+use Rattle.walker.specs.Walking.{least_from, ran_by, with, told, completed}
+use Rattle.walker.specs.Steps.{first_on, first_over}
 use Rattle.walker.specs.Way.{laters}
+
+-- the larger decisions as a run has them: none for what is no decision
+abbrev pub larger_ones : List ℕ → List (Option ℕ)
+larger_ones = map (below decisions)
 
 -- q is the run p with the decisions l, which end it
 pub record Ends (table : Table) (w : World) (p : Path) (l : List ℕ) (q : Path) : Type 0 where
   pub list : take q.at q.list ≡ take p.at p.list ++ l
-  pub later : take q.at q.later ≡ take p.at p.later ++ laters (step table) decisions (left table) w l
+  pub later : take q.at q.later ≡ take p.at p.later ++ larger_ones (laters (step table) decisions (left table) w l)
   pub in_list : q.at ≤ max_list
   pub long : length q.list ≡ max_list
   pub long_later : length q.later ≡ max_list
-  pub answer : (v : Verdict) × ((i : ℕ) → judge (step table) i w l ≡ verdict v) × (q.end ≡ end.Verdict v.answer)
+  pub answer : (v : Verdict) × ((i : ℕ) → judge (step table) i w l ≡ verdict v) × (q.verdict ≡ Some v.answer)
 
 -- a run of one decision, by its outcome
 module _ (table : Table) (w : World) (d : ℕ) where
-  one_done : (v : Verdict) → step table w d ≡ done v → record { end = end.Verdict v.answer; world = v.world } ≡ ran_by table w d
-  unfolding judge ran_of
-  one_done v e = rw e
+  one_done : (v : Verdict) → step table w d ≡ done v → ran_by table w d ≡ Ok (record { verdict = Some v.answer; world = v.world })
+  unfolding judge
+  one_done v e = rw e refl
 
-  one_wants : (v : World) → step table w d ≡ wants v → record { end = end.Unfinished; world = v } ≡ ran_by table w d
-  unfolding judge ran_of
-  one_wants v e = rw e
+  one_wants : (v : World) → step table w d ≡ wants v → ran_by table w d ≡ Ok (record { verdict = None; world = v })
+  unfolding judge
+  one_wants v e = rw e refl
 
-  larger_is : least_from w (d + 1) ≡ larger (step table) decisions w d
+  larger_sought : seek (is_allowed w.asked w.threads) (decisions - (d + 1)) (d + 1) ≡ larger (step table) decisions w d
   unfolding larger
-  larger_is = rw add-one (least_is table w (decisions - suc d) (suc d))
+  larger_sought = rw add-one (least_is table w (decisions - suc d) (suc d))
 
-pub smallest_is : (table : Table) (w : World) → least_from w 0 ≡ smallest (step table) decisions w
+  larger_is : least_from w (d + 1) ≡ below decisions (larger (step table) decisions w d)
+  larger_is = ap (below decisions) larger_sought
+
+smallest_is : (table : Table) (w : World) → least_from w 0 ≡ below decisions (smallest (step table) decisions w)
 unfolding smallest
-smallest_is table w = least_is table w decisions 0
+smallest_is table w = ap (below decisions) (least_is table w decisions 0)
 
 module _ (table : Table) (n : Within table) where
+  -- a decision is allowed where one is wanted
+  pub some_smallest : (w : World) → Good table w → allowed (step table) w (smallest (step table) decisions w) ≡ true
+  some_smallest w g = smallest-allowed (step table) decisions (left table) (Good table) (bounded table n) (some_allowed table n) (keeps table n) (falls table n) w g
+
+  pub least_smallest : (w : World) → Good table w → least_from w 0 ≡ Some (smallest (step table) decisions w)
+  least_smallest w g =
+      let d : ℕ = smallest (step table) decisions w in
+      let few : d < decisions = allowed_below (step table) decisions (left table) (Good table) (bounded table n) (some_allowed table n) (keeps table n) (falls table n) w d g (some_smallest w g) in
+      smallest_is table w ∙ sym (below_there decisions d d refl few)
+
   -- the run with one decision more
-  module _ (w : World) (p : Path) (d : ℕ) (x : End) (room : p.at < max_list) (long : length p.list ≡ max_list) (long_later : length p.later ≡ max_list) where
+  module _ (w : World) (p : Path) (d : ℕ) (x : Option Answer) (room : p.at < max_list) (long : length p.list ≡ max_list) (long_later : length p.later ≡ max_list) where
     abbrev q : Path
-    q = with p d (least_from w (d + 1)) x
+    q = told (with p p.at d (least_from w (d + 1))) x
 
     longer : take q.at q.list ≡ take p.at p.list ++ d ∷ []
     longer = rw add-one (take-suc-set p.list p.at d (omega (arith, room, long)))
 
-    longer_later : take q.at q.later ≡ take p.at p.later ++ larger (step table) decisions w d ∷ []
+    longer_later : take q.at q.later ≡ take p.at p.later ++ below decisions (larger (step table) decisions w d) ∷ []
     longer_later =
-        rw add-one (take-suc-set p.later p.at (least_from w (d + 1)) (omega (arith, room, long_later)))
-        ∙ ap (λ (k : ℕ). take p.at p.later ++ k ∷ []) (larger_is table w d)
+        let next : p.at + 1 ≡ suc p.at = add-one p.at in
+        rw next (take-suc-set p.later p.at (least_from w (d + 1)) (omega (arith, room, long_later)))
+        ∙ ap (λ (k : Option ℕ). take p.at p.later ++ k ∷ []) (larger_is table w d)
 
     -- it ends the run
-    ends_done : (v : Verdict) → step table w d ≡ done v → x ≡ end.Verdict v.answer → Ends table w p (d ∷ []) q
+    ends_done : (v : Verdict) → step table w d ≡ done v → x ≡ Some v.answer → Ends table w p (d ∷ []) q
     unfolding judge laters
     ends_done v e f = record {
       list = longer;
@@ -94,8 +113,8 @@ module _ (table : Table) (n : Within table) where
       later =
           rw e
           (y.later
-          ∙ ap (λ (k : List ℕ). k ++ laters (step table) decisions (left table) v l) longer_later
-          ∙ append_snoc (take p.at p.later) (larger (step table) decisions w d) (laters (step table) decisions (left table) v l));
+          ∙ ap (λ (k : List (Option ℕ)). k ++ larger_ones (laters (step table) decisions (left table) v l)) longer_later
+          ∙ append_snoc (take p.at p.later) (below decisions (larger (step table) decisions w d)) (larger_ones (laters (step table) decisions (left table) v l)));
       in_list = y.in_list;
       long = y.long;
       long_later = y.long_later;
@@ -107,40 +126,39 @@ module _ (table : Table) (n : Within table) where
   raised-done w d v e = sym (raised_last (step table) decisions (left table) w d (λ u f. let z : done v ≡ wants u = sym e ∙ f in let q : ◌≡◌ {A = ℕ} 0 1 = cc in omega (arith, q)))
 
   raised_on : (w : World) (d : ℕ) (v : World) → Good table w → step table w d ≡ wants v
-      → d ∷ raised (step table) decisions (left table) v (least_from v 0) ≡ raised (step table) decisions (left table) w d
+      → d ∷ raised (step table) decisions (left table) v (smallest (step table) decisions v) ≡ raised (step table) decisions (left table) w d
   raised_on w d v g e =
-      ap (λ (k : ℕ). d ∷ raised (step table) decisions (left table) v k) (smallest_is table v)
-      ∙ ap (λ (l : List ℕ). d ∷ l) (raised-smallest (step table) decisions (left table) v)
+      ap (λ (l : List ℕ). d ∷ l) (raised-smallest (step table) decisions (left table) v)
       ∙ sym (raised-wants (step table) decisions (left table) (Good table) (bounded table n) (some_allowed table n) (keeps table n) (falls table n) w d v g e)
 
   -- a completion ends the run, with the smallest list
   pub completed_ends : (k : ℕ) (w : World) (p : Path) (low : ℕ) → Good table w → left table w ≤ k → p.at + left table w ≤ max_list → length p.list ≡ max_list → length p.later ≡ max_list
-      → allowed (step table) w (least_from w low) ≡ true → Ends table w p (raised (step table) decisions (left table) w (least_from w low)) (completed table k w p low)
-  completed_ends zero w p low g enough few long long_later a = absurd (omega (arith, enough, left_some table n w g))
-  completed_ends (suc k) w p low g enough few long long_later a = go (step table w d) refl (completed_ends k)
+      → (d : ℕ) → least_from w low ≡ Some d → allowed (step table) w d ≡ true → Ends table w p (raised (step table) decisions (left table) w d) (completed table k w p low)
+  completed_ends zero w p low g enough few long long_later d is-d a = absurd (omega (arith, enough, left_some table n w g))
+  completed_ends (suc k) w p low g enough few long long_later d is-d a = go (step table w d) refl (completed_ends k)
     where
-      d : ℕ
-      d = least_from w low
-
       room : p.at < max_list
       room = omega (arith, few, left_some table n w g)
 
+      longer_by : Option Answer → Path
+      longer_by x = told (with p p.at d (least_from w (d + 1))) x
+
       go : (o : Outcome World Verdict) → step table w d ≡ o
-          → ((v : World) (s : Path) (e : ℕ) → Good table v → left table v ≤ k → s.at + left table v ≤ max_list → length s.list ≡ max_list → length s.later ≡ max_list
-          → allowed (step table) v (least_from v e) ≡ true → Ends table v s (raised (step table) decisions (left table) v (least_from v e)) (completed table k v s e))
+          → ((v : World) (s : Path) (low : ℕ) → Good table v → left table v ≤ k → s.at + left table v ≤ max_list → length s.list ≡ max_list → length s.later ≡ max_list
+          → (e : ℕ) → least_from v low ≡ Some e → allowed (step table) v e ≡ true → Ends table v s (raised (step table) decisions (left table) v e) (completed table k v s low))
           → Ends table w p (raised (step table) decisions (left table) w d) (completed table (suc k) w p low)
       go refused e ih = absurd (false≢true (sym (ap allowedb e) ∙ a))
       go (done v) e ih =
-          let r : Ran = record { end = end.Verdict v.answer; world = v.world } in
-          let q : Path = with p d (least_from w (d + 1)) (end.Verdict v.answer) in
-          let made : q ≡ completed table (suc k) w p low = sym (first-over table w p low d _ r refl refl (one_done table w d v e) k refl) in
-          subst (λ (l : List ℕ). Ends table w p l (completed table (suc k) w p low)) (raised-done w d v e) (subst (Ends table w p (d ∷ [])) made (ends_done w p d (end.Verdict v.answer) room long long_later v e refl))
+          let r : Ran = record { verdict = Some v.answer; world = v.world } in
+          let made : longer_by (Some v.answer) ≡ completed table (suc k) w p low = sym (first_over table w p low k d is-d r (one_done table w d v e) refl) in
+          subst (λ (l : List ℕ). Ends table w p l (completed table (suc k) w p low)) (raised-done w d v e) (subst (Ends table w p (d ∷ [])) made (ends_done w p d (Some v.answer) room long long_later v e refl))
       go (wants v) e ih =
-          let r : Ran = record { end = end.Unfinished; world = v } in
-          let q : Path = with p d (least_from w (d + 1)) end.Unfinished in
-          let made : completed table k v q 0 ≡ completed table (suc k) w p low = sym (first_on table w p low d _ r refl refl (one_wants table w d v e) k refl) in
+          let r : Ran = record { verdict = None; world = v } in
+          let q : Path = longer_by None in
+          let made : completed table k v q 0 ≡ completed table (suc k) w p low = sym (first_on table w p low k d is-d r (one_wants table w d v e) refl) in
           let less = falls table n w d v g e in
-          let some = smallest-allowed (step table) decisions (left table) (Good table) (bounded table n) (some_allowed table n) (keeps table n) (falls table n) v (keeps table n w d v g e) in
-          let rest = ih v q 0 (keeps table n w d v g e) (omega (arith, less, enough)) (omega (arith, less, few)) (length-set p.list p.at d ∙ long) (length-set p.later p.at _ ∙ long_later) (ap (allowed (step table) v) (smallest_is table v) ∙ some) in
+          let good = keeps table n w d v g e in
+          let first : ℕ = smallest (step table) decisions v in
+          let rest = ih v q 0 good (omega (arith, less, enough)) (omega (arith, less, few)) (length-set p.list p.at d ∙ long) (length-set p.later p.at _ ∙ long_later) first (least_smallest v good) (some_smallest v good) in
           subst (λ (l : List ℕ). Ends table w p l (completed table (suc k) w p low)) (raised_on w d v g e)
-          (subst (Ends table w p (d ∷ raised (step table) decisions (left table) v (least_from v 0))) made (ends_wants w p d end.Unfinished room long long_later v e (raised (step table) decisions (left table) v (least_from v 0)) (completed table k v q 0) rest))
+          (subst (Ends table w p (d ∷ raised (step table) decisions (left table) v first)) made (ends_wants w p d None room long long_later v e (raised (step table) decisions (left table) v first) (completed table k v q 0) rest))

@@ -1,117 +1,141 @@
 -- The walk's definitions in the shape that the code asks for.
-use Rattle.std.specs.Prelude.{◌≡◌, refl, Bool, true, false, List, leb, ltb, take, drop, get_or}
-use Rattle.std.proofs.Common.{sym, ◌∙◌, subst, arith, ltb-true, ltb-false, lt-ltb, le-ltb, le-leb}
+use Rattle.std.specs.Prelude.{◌≡◌, refl, Bool, true, false, Option, Some, None, Result, Ok, Err, List, leb, ltb, take, drop, get_or}
+use Rattle.std.specs.Option.{is_some, option_map, option_and_then}
+use Rattle.std.proofs.Common.{sym, ◌∙◌, subst, arith, ltb-false, lt-ltb, le-ltb, le-leb}
 use Rattle.std.proofs.Math.Path.{ap}
 use Rattle.std.proofs.Math.Bool.{cond}
 use Rattle.std.proofs.lemmas.Bool.{false≢true, lt-leb}
 use Prim.Native.Nat.{ℕ, zero, suc, ◌+◌, ◌-◌, ◌*◌, ◌≤◌, ◌<◌, min}
 use Rattle.std.proofs.Math.Decide.{dec_lt}
 use Rattle.lists.specs.Judge.{judge}
-use Rattle.lists.proofs.Greedy.{seek_sought}
+use Rattle.rules.specs.declared.answer.Answer.{Answer}
 use Rattle.rules.specs.declared.table.Table.{Table}
 use Rattle.rules.specs.declared.world.World.{World}
 use Rattle.rules.specs.Limits.{max_list}
 use Rattle.rules.proofs.TableLaws.{split}
-use Rattle.rules.specs.Turn.{is_allowed, start}
+use Rattle.rules.specs.Turn.{start}
 use Rattle.rules.specs.Judge.{step}
 use Rattle.rules.specs.Walk.{decisions}
-use Rattle.turns_run.specs.declared.End.{End}
-use Rattle.turns_run.specs.declared.End.TheVariants as end
 use Rattle.turns_run.specs.declared.Ran.{Ran}
+use Rattle.turns_run.specs.declared.Refusal.{Refusal}
 use Rattle.turns_run.specs.Run.{ran_of}
-use Rattle.walk.specs.Says.{is_over}
+use Rattle.walk.specs.Decided.{below_some}
 use Rattle.walker.specs.declared.Path.{Path}
 use Rattle.walker.specs.declared.Kept.{Kept}
 use Rattle.walker.specs.declared.Walker.{Walker}
-use Rattle.walker.specs.Walking.{least_from, ran_by, with, or_on, completed, last_below, moved, at_start, near, not_behind, nearer, empty, begun, raised_at, advanced}
+use Rattle.walker.specs.Walking.{least_from, ran_by, with, told, or_on, ran_on, chosen_on, completed, last_below, moved_by, moved, at_start, near, not_behind, nearer, empty, begun, raised_at, advanced}
 
--- a decision that is sought is small
-pub least_small : (w : World) (k d : ℕ) → k ≤ decisions + 1 → d ≡ least_from w k → d ≤ decisions + 1
-least_small w k d h e = omega (arith, h, e, (seek_sought (is_allowed w.asked w.threads) (decisions - k) k).high)
+or_over : (x : Option Answer) (a b : Path) → is_some x ≡ true → or_on x a b ≡ a
+or_over None a b h = absurd (false≢true h)
+or_over (Some v) a b h = refl
 
-pub least_at_most : (w : World) (k d : ℕ) → k ≤ decisions → d ≡ least_from w k → d ≤ decisions
-least_at_most w k d h e = omega (arith, h, e, (seek_sought (is_allowed w.asked w.threads) (decisions - k) k).high)
-
-or_over : (x : End) (a b : Path) → is_over x ≡ true → or_on x a b ≡ a
-or_over (end.NotAllowed i) a b h = refl
-or_over (end.Surplus i) a b h = refl
-or_over end.Unfinished a b h = absurd (false≢true h)
-or_over (end.Verdict v) a b h = refl
+or_goes : (x : Option Answer) (a b : Path) → is_some x ≡ false → or_on x a b ≡ b
+or_goes None a b h = refl
+or_goes (Some v) a b h = absurd (false≢true (sym h))
 
 module _ (table : Table) (w : World) (p : Path) (low : ℕ) where
-  pub complete_full : max_list ≤ p.at → completed table (max_list - p.at) w p low ≡ p
-  unfolding completed
-  complete_full h = let e : max_list - p.at ≡ zero = omega (arith, h) in rw e
+  -- the first decision of a completion, where there is one
+  module _ (n : ℕ) where
+    abbrev one : Option ℕ → Path
+    one o = chosen_on o p (λ d. ran_on (ran_by table w d) (with p p.at d (least_from w (d + 1))) (λ v q. completed table n v q 0))
 
-  module _ (d e : ℕ) (r : Ran) (is-d : d ≡ least_from w low) (is-e : e ≡ least_from w (d + 1)) (is-r : r ≡ ran_by table w d) where
-    abbrev one : ℕ → ℕ → ℕ → Ran → Path
-    one n x y z = or_on z.end (with p x y z.end) (completed table n z.world (with p x y z.end) 0)
-
-    -- the first decision of a completion
-    first : (n : ℕ) → completed table (suc n) w p low ≡ one n d e r
+    pub first_none : least_from w low ≡ None → completed table (suc n) w p low ≡ p
     unfolding completed
-    first n = ap (λ (x : ℕ). one n x (least_from w (x + 1)) (ran_by table w x)) (sym is-d) ∙ (λ i. one n d (sym is-e i) (sym is-r i))
+    first_none e = ap one e
 
-    pub first_on : (n : ℕ) → r.end ≡ end.Unfinished → completed table (suc n) w p low ≡ completed table n r.world (with p d e r.end) 0
-    first_on n f = first n ∙ ap (λ (x : End). or_on x (with p d e r.end) (completed table n r.world (with p d e r.end) 0)) f
+    module _ (d : ℕ) (e : least_from w low ≡ Some d) where
+      abbrev q : Path
+      q = with p p.at d (least_from w (d + 1))
 
-    pub first-over : (n : ℕ) → is_over r.end ≡ true → completed table (suc n) w p low ≡ with p d e r.end
-    first-over n f = first n ∙ or_over r.end _ _ f
+      abbrev then : Result Ran Refusal → Path
+      then o = ran_on o q (λ v s. completed table n v s 0)
 
-    module _ (h : p.at < max_list) where
-      room : max_list - p.at ≡ suc (max_list - (p.at + 1))
+      first : (o : Result Ran Refusal) → ran_by table w d ≡ o → completed table (suc n) w p low ≡ then o
+      unfolding completed
+      first o f = ap one e ∙ ap then f
+
+      pub first_refused : (r : Refusal) → ran_by table w d ≡ Err r → completed table (suc n) w p low ≡ q
+      first_refused r f = first (Err r) f
+
+      pub first_over : (r : Ran) → ran_by table w d ≡ Ok r → is_some r.verdict ≡ true → completed table (suc n) w p low ≡ told q r.verdict
+      first_over r f h = first (Ok r) f ∙ or_over r.verdict _ _ h
+
+      pub first_on : (r : Ran) → ran_by table w d ≡ Ok r → is_some r.verdict ≡ false → completed table (suc n) w p low ≡ completed table n r.world (told q r.verdict) 0
+      first_on r f h = first (Ok r) f ∙ or_goes r.verdict _ _ h
+
+  -- as the loop has it, at its place
+  module _ (i : ℕ) where
+    pub complete_full : max_list ≤ i → completed table (max_list - i) w p low ≡ p
+    unfolding completed
+    complete_full h = let e : max_list - i ≡ zero = omega (arith, h) in rw e
+
+    module _ (at : p.at ≡ i) (h : i < max_list) where
+      room : max_list - i ≡ suc (max_list - (i + 1))
       room = omega (arith, h)
 
-      pub complete_on : r.end ≡ end.Unfinished → completed table (max_list - p.at) w p low ≡ completed table (max_list - (p.at + 1)) r.world (with p d e r.end) 0
-      complete_on f = ap (λ (k : ℕ). completed table k w p low) room ∙ first_on (max_list - (p.at + 1)) f
+      abbrev rest : ℕ → Path
+      rest k = completed table k w p low
 
-      pub complete-over : is_over r.end ≡ true → completed table (max_list - p.at) w p low ≡ with p d e r.end
-      complete-over f = ap (λ (k : ℕ). completed table k w p low) room ∙ first-over (max_list - (p.at + 1)) f
+      pub complete_none : least_from w low ≡ None → completed table (max_list - i) w p low ≡ p
+      complete_none e = ap rest room ∙ first_none (max_list - (i + 1)) e
 
-pub below_end : (l : List ℕ) → last_below l 0 ≡ 0
-unfolding last_below
-below_end l = refl
+      module _ (d : ℕ) (e : Option ℕ) (is-d : least_from w low ≡ Some d) (is-e : e ≡ least_from w (d + 1)) where
+        here : with p p.at d (least_from w (d + 1)) ≡ with p i d e
+        here = λ j. with p (at j) d (sym is-e j)
 
-module _ (l : List ℕ) (n : ℕ) where
-  pub below_found : get_or l n 0 < decisions → last_below l (suc n) ≡ suc n
+        pub complete_refused : (r : Refusal) → ran_by table w d ≡ Err r → completed table (max_list - i) w p low ≡ with p i d e
+        complete_refused r f = ap rest room ∙ first_refused (max_list - (i + 1)) d is-d r f ∙ here
+
+        pub complete_over : (r : Ran) → ran_by table w d ≡ Ok r → is_some r.verdict ≡ true → completed table (max_list - i) w p low ≡ told (with p i d e) r.verdict
+        complete_over r f t = ap rest room ∙ first_over (max_list - (i + 1)) d is-d r f t ∙ ap (λ (q : Path). told q r.verdict) here
+
+        pub complete_on : (r : Ran) → ran_by table w d ≡ Ok r → is_some r.verdict ≡ false → completed table (max_list - i) w p low ≡ completed table (max_list - (i + 1)) r.world (told (with p i d e) r.verdict) 0
+        complete_on r f t = ap rest room ∙ first_on (max_list - (i + 1)) d is-d r f t ∙ ap (λ (q : Path). completed table (max_list - (i + 1)) r.world (told q r.verdict) 0) here
+
+-- the last of the first n places that has a decision
+abbrev pub Last : List (Option ℕ) → ℕ → Option ℕ → Type 0
+Last l n None = (i : ℕ) → i < n → is_some (get_or l i None) ≡ false
+Last l n (Some p) = (p < n) × (is_some (get_or l p None) ≡ true) × ((i : ℕ) → p < i → i < n → is_some (get_or l i None) ≡ false)
+
+module _ (l : List (Option ℕ)) where
+  below_found : (n : ℕ) → is_some (get_or l n None) ≡ true → last_below l (suc n) ≡ Some n
   unfolding last_below
-  below_found h = rw (lt-ltb (get_or l n 0) decisions h)
+  below_found n h = rw h
 
-  pub below_not : decisions ≤ get_or l n 0 → last_below l (suc n) ≡ last_below l n
+  below_not : (n : ℕ) → is_some (get_or l n None) ≡ false → last_below l (suc n) ≡ last_below l n
   unfolding last_below
-  below_not h = rw (le-ltb (get_or l n 0) decisions h)
+  below_not n h = rw h
 
--- the last place of the first n whose number is a decision, given as one more than it; 0 if there is none
-abbrev pub Last : List ℕ → ℕ → ℕ → Type 0
-Last l n zero = (i : ℕ) → i < n → decisions ≤ get_or l i 0
-Last l n (suc p) = (p < n) × (get_or l p 0 < decisions) × ((i : ℕ) → p < i → i < n → decisions ≤ get_or l i 0)
+  pub last_is : (n : ℕ) → Last l n (last_below l n)
+  unfolding last_below
+  last_is zero = λ i h. absurd (omega (arith, h))
+  last_is (suc n) =
+      split (is_some (get_or l n None))
+      (λ t. subst (Last l (suc n)) (sym (below_found n t)) (omega arith, t, λ i a b. absurd (omega (arith, a, b))))
+      (λ t. subst (Last l (suc n)) (sym (below_not n t)) (wider (last_below l n) t (last_is n)))
+    where
+      at : (i : ℕ) → Dec (i < n) → i < suc n → is_some (get_or l n None) ≡ false → (i < n → is_some (get_or l i None) ≡ false) → is_some (get_or l i None) ≡ false
+      at i (yes h) b e k = k h
+      at i (no h) b e k = let same : i ≡ n = omega (arith, b, h) in rw same e
 
-pub last_is : (l : List ℕ) (n : ℕ) → Last l n (last_below l n)
-unfolding last_below
-last_is l zero = λ i h. absurd (omega (arith, h))
-last_is l (suc n) =
-    split (ltb (get_or l n 0) decisions)
-    (λ t. subst (Last l (suc n)) (sym (below_found l n (ltb-true (get_or l n 0) decisions t))) (omega arith, ltb-true (get_or l n 0) decisions t, λ i a b. absurd (omega (arith, a, b))))
-    (λ t. let h = ltb-false (get_or l n 0) decisions t in subst (Last l (suc n)) (sym (below_not l n h)) (wider (last_below l n) h (last_is l n)))
-  where
-    at : (i : ℕ) → Dec (i < n) → i < suc n → decisions ≤ get_or l n 0 → (i < n → decisions ≤ get_or l i 0) → decisions ≤ get_or l i 0
-    at i (yes h) b e k = k h
-    at i (no h) b e k = let same : i ≡ n = omega (arith, b, h) in rw same e
+      wider : (o : Option ℕ) → is_some (get_or l n None) ≡ false → Last l n o → Last l (suc n) o
+      wider None e f = λ i b. at i (dec_lt i n) b e (f i)
+      wider (Some p) e f = let h = f.0 in (omega (arith, h), f.1, λ i a b. at i (dec_lt i n) b e (f.2 i a))
 
-    wider : (p : ℕ) → decisions ≤ get_or l n 0 → Last l n p → Last l (suc n) p
-    wider zero e f = λ i b. at i (dec_lt i n) b e (f i)
-    wider (suc p) e f = (omega (arith, f.0), f.1, λ i a b. at i (dec_lt i n) b e (f.2 i a))
+  -- and it is the only one
+  pub last_none : (n : ℕ) → Last l n None → None ≡ last_below l n
+  unfolding last_below
+  last_none zero f = refl
+  last_none (suc n) f = last_none n (λ i h. f i (omega (arith, h))) ∙ sym (below_not n (f n (omega arith)))
 
--- what the code finds there
-module _ (l : List ℕ) (n i : ℕ) (e : i ≡ last_below l n) (some : 0 < i) where
-  found : Last l n (suc (i - 1))
-  found = let z : i ≡ suc (i - 1) = omega (arith, some) in subst (Last l n) (sym e ∙ z) (last_is l n)
-
-  pub found_in : i - 1 < n
-  found_in = found.0
-
-  pub found_decision : get_or l (i - 1) 0 < decisions
-  found_decision = found.1
+  pub last_some : (n p : ℕ) → Last l n (Some p) → Some p ≡ last_below l n
+  unfolding last_below
+  last_some zero p f = let h = f.0 in absurd (omega (arith, h))
+  last_some (suc n) p f = go (dec_lt p n) (last_some n p)
+    where
+      go : Dec (p < n) → (Last l n (Some p) → Some p ≡ last_below l n) → Some p ≡ last_below l (suc n)
+      go (yes h) ih = ih (h, f.1, λ i a b. f.2 i a (omega (arith, b))) ∙ sym (below_not n (f.2 n h (omega arith)))
+      go (no h) ih = let b = f.0 in let same : p ≡ n = omega (arith, b, h) in ap Some same ∙ sym (below_found n (subst (λ (k : ℕ). is_some (get_or l k None) ≡ true) same f.1))
 
 pub at_start_is : (table : Table) (w : World) → w ≡ start table → record { world = w; from = 0 } ≡ at_start table
 unfolding at_start
@@ -122,11 +146,11 @@ module _ (table : Table) (l : List ℕ) (k : Kept) where
   unfolding moved
   moved_not to h = rw (le-leb to k.from h)
 
-  pub moved_on : (to : ℕ) → k.from < to → (r : Ran) → r ≡ ran_of (judge (step table) 0 k.world (take (to - k.from) (drop k.from l))) → record { world = r.world; from = to } ≡ moved table l k to
+  pub moved_on : (to : ℕ) → k.from < to → (o : Result Ran Refusal) → ran_of (judge (step table) 0 k.world (take (to - k.from) (drop k.from l))) ≡ o → moved_by o k to ≡ moved table l k to
   unfolding moved
-  moved_on to h r e =
-      ap (λ (x : Ran). record { world = x.world; from = to }) e
-      ∙ ap (λ (y : Bool). cond y k (record { world = (ran_of (judge (step table) 0 k.world (take (to - k.from) (drop k.from l)))).world; from = to })) (sym (lt-leb to k.from h))
+  moved_on to h o e =
+      ap (λ (x : Result Ran Refusal). moved_by x k to) (sym e)
+      ∙ ap (λ (y : Bool). cond y k (moved_by (ran_of (judge (step table) 0 k.world (take (to - k.from) (drop k.from l)))) k to)) (sym (lt-leb to k.from h))
 
   module _ (p : ℕ) where
     pub behind : p < k.from → at_start table ≡ not_behind table k p
@@ -154,33 +178,33 @@ module _ (table : Table) (l : List ℕ) (k : Kept) where
       nearer_far h = ap (λ (y : Bool). cond y b (moved table l b (p - near))) (sym (lt-leb (p - b.from) (2 * near) h)) ∙ is_by
 
 pub begun_is : (table : Table) (k : Kept) (q : Path) → k ≡ at_start table → q ≡ completed table (max_list - 0) k.world empty 0
-    → record { table = table; path = q; kept = k; over = false } ≡ begun table
+    → record { table = table; path = q; kept = k } ≡ begun table
 unfolding begun at_start
-begun_is table k q e f = λ i. record { table = table; path = (f ∙ ap (λ (x : Kept). completed table max_list x.world empty 0) e) i; kept = e i; over = false }
+begun_is table k q e f = λ i. record { table = table; path = (f ∙ ap (λ (x : Kept). completed table max_list x.world empty 0) e) i; kept = e i }
 
 -- the code's steps to the next run
-module _ (w : Walker) (n i : ℕ) (is-n : n ≡ min w.path.at max_list) (is-i : i ≡ last_below w.path.later n) where
-  place : i ≡ last_below w.path.later (min w.path.at max_list)
-  place = is-i ∙ ap (last_below w.path.later) is-n
+module _ (w : Walker) where
+  abbrev from_last : Option ℕ → Option Walker
+  from_last o = option_and_then (λ p. option_map (raised_at w.table w p) (get_or w.path.later p None)) o
 
-  pub advanced-over : i ≡ 0 → record { table = w.table; path = w.path; kept = w.kept; over = true } ≡ advanced w
-  unfolding advanced raised_at
-  advanced-over h = ap (raised_at w.table w) (sym h ∙ place)
+  pub advanced_not : last_below w.path.later (min w.path.at max_list) ≡ None → None ≡ advanced w
+  unfolding advanced
+  advanced_not e = sym (ap from_last e)
 
-  abbrev stem : Path
-  stem = record { list = w.path.list; later = w.path.later; at = i - 1; end = w.path.end }
+  module _ (p : ℕ) (at : last_below w.path.later (min w.path.at max_list) ≡ Some p) where
+    abbrev raised : Option ℕ → Option Walker
+    raised o = option_map (raised_at w.table w p) o
 
-  pub advanced_on : 0 < i → (k h : Kept) (q : Path) → k ≡ nearer w.table w.path.list w.kept (i - 1) → h ≡ moved w.table w.path.list k (i - 1)
-      → q ≡ completed w.table (max_list - (i - 1)) h.world stem (get_or w.path.later (i - 1) 0) → record { table = w.table; path = q; kept = k; over = false } ≡ advanced w
-  unfolding advanced raised_at
-  advanced_on some k h q is-k is-h is-q =
-      let z : suc (i - 1) ≡ i = omega (arith, some) in
-      let there : h ≡ moved w.table w.path.list (nearer w.table w.path.list w.kept (i - 1)) (i - 1) = is-h ∙ ap (λ (x : Kept). moved w.table w.path.list x (i - 1)) is-k in
-      (λ j.
-      record {
-        table = w.table;
-        path = (is-q ∙ ap (λ (x : Kept). completed w.table (max_list - (i - 1)) x.world stem (get_or w.path.later (i - 1) 0)) there) j;
-        kept = is-k j;
-        over = false;
-      })
-      ∙ ap (raised_at w.table w) (z ∙ place)
+    pub advanced-none : get_or w.path.later p None ≡ None → None ≡ advanced w
+    unfolding advanced
+    advanced-none e = sym (ap from_last at ∙ ap raised e)
+
+    pub advanced_on : (d : ℕ) → get_or w.path.later p None ≡ Some d → (k h : Kept) (q : Path) → k ≡ nearer w.table w.path.list w.kept p → h ≡ moved w.table w.path.list k p
+        → q ≡ completed w.table (max_list - p) h.world (record { list = w.path.list; later = w.path.later; at = p; verdict = None }) d
+        → Some (record { table = w.table; path = q; kept = k }) ≡ advanced w
+    unfolding advanced raised_at
+    advanced_on d e k h q is-k is-h is-q =
+        let stem : Path = record { list = w.path.list; later = w.path.later; at = p; verdict = None } in
+        let there : h ≡ moved w.table w.path.list (nearer w.table w.path.list w.kept p) p = is-h ∙ ap (λ (x : Kept). moved w.table w.path.list x p) is-k in
+        (λ j. Some (record { table = w.table; path = (is-q ∙ ap (λ (x : Kept). completed w.table (max_list - p) x.world stem d) there) j; kept = is-k j }))
+        ∙ sym (ap from_last at ∙ ap raised e)

@@ -1,58 +1,69 @@
 -- The walk as the code does it: a run completed, the kept world moved on, the next run.
-use Rattle.std.specs.Prelude.{true, false, cond, List, [], ◌∷◌, ℕ, zero, suc, ◌+◌, ◌-◌, ◌*◌, min, leb, ltb, take, drop, get_or, set, replicate}
+use Rattle.std.specs.Prelude.{cond, Option, Some, None, Result, Ok, Err, List, [], ◌∷◌, ℕ, zero, suc, ◌+◌, ◌-◌, ◌*◌, min, leb, ltb, take, drop, get_or, set, replicate}
+use Rattle.std.specs.Option.{is_some, option_map, option_and_then}
 use Rattle.lists.specs.Judge.{judge}
 use Rattle.lists.specs.Greedy.{seek}
+use Rattle.rules.specs.declared.answer.Answer.{Answer}
 use Rattle.rules.specs.declared.table.Table.{Table}
 use Rattle.rules.specs.declared.world.World.{World}
 use Rattle.rules.specs.Limits.{max_list}
 use Rattle.rules.specs.Turn.{is_allowed, start}
 use Rattle.rules.specs.Judge.{step}
 use Rattle.rules.specs.Walk.{decisions}
-use Rattle.turns_run.specs.declared.End.{End}
-use Rattle.turns_run.specs.declared.End.TheVariants as end
+use Rattle.turns_steps.specs.Step.{below}
 use Rattle.turns_run.specs.declared.Ran.{Ran}
+use Rattle.turns_run.specs.declared.Refusal.{Refusal}
 use Rattle.turns_run.specs.Run.{ran_of}
 use Rattle.walker.specs.declared.Path.{Path}
 use Rattle.walker.specs.declared.Kept.{Kept}
 use Rattle.walker.specs.declared.Walker.{Walker}
 
--- the smallest allowed decision that is k or more
-abbrev pub least_from : World → ℕ → ℕ
-least_from w k = seek (is_allowed w.asked w.threads) (decisions - k) k
+-- the smallest allowed decision that is k or more, if there is one
+abbrev pub least_from : World → ℕ → Option ℕ
+least_from w k = below decisions (seek (is_allowed w.asked w.threads) (decisions - k) k)
 
 -- a run of one decision
-abbrev pub ran_by : Table → World → ℕ → Ran
+abbrev pub ran_by : Table → World → ℕ → Result Ran Refusal
 ran_by table w d = ran_of (judge (step table) 0 w (d ∷ []))
 
--- what is added to a run by the decision d, which ends it so
-abbrev pub with : Path → ℕ → ℕ → End → Path
-with p d e x = record { list = set p.list p.at d; later = set p.later p.at e; at = p.at + 1; end = x }
+-- what is added to a run by the decision d at its place i
+abbrev pub with : Path → ℕ → ℕ → Option ℕ → Path
+with p i d e = record { list = set p.list i d; later = set p.later i e; at = i + 1; verdict = p.verdict }
+
+abbrev pub told : Path → Option Answer → Path
+told p v = record { list = p.list; later = p.later; at = p.at; verdict = v }
 
 -- a run goes on where another decision is wanted
-abbrev pub or_on : End → Path → Path → Path
-or_on (end.NotAllowed i) over on = over
-or_on (end.Surplus i) over on = over
-or_on end.Unfinished over on = on
-or_on (end.Verdict a) over on = over
+abbrev pub or_on : Option Answer → Path → Path → Path
+or_on None over on = on
+or_on (Some a) over on = over
+
+abbrev pub ran_on : Result Ran Refusal → Path → (World → Path → Path) → Path
+ran_on (Err r) q k = q
+ran_on (Ok r) q k = or_on r.verdict (told q r.verdict) (k r.world (told q r.verdict))
+
+abbrev pub chosen_on : Option ℕ → Path → (ℕ → Path) → Path
+chosen_on None p k = p
+chosen_on (Some d) p k = k d
 
 -- the smallest allowed decision that is `low` or more, and then the smallest ones, n of them at most, until the run ends
 unfoldable pub completed : Table → ℕ → World → Path → ℕ → Path
 completed table zero w p low = p
 completed table (suc n) w p low =
-    let d = least_from w low in
-    let r = ran_by table w d in
-    let q = with p d (least_from w (d + 1)) r.end in
-    or_on r.end q (completed table n r.world q 0)
+    chosen_on (least_from w low) p (λ d. ran_on (ran_by table w d) (with p p.at d (least_from w (d + 1))) (λ v q. completed table n v q 0))
 
--- one more than the last of the first n places whose number is a decision; 0 if there is none
-unfoldable pub last_below : List ℕ → ℕ → ℕ
-last_below l zero = 0
-last_below l (suc n) = cond (ltb (get_or l n 0) decisions) (suc n) (last_below l n)
+-- the last of the first n places that has a decision
+unfoldable pub last_below : List (Option ℕ) → ℕ → Option ℕ
+last_below l zero = None
+last_below l (suc n) = cond (is_some (get_or l n None)) (Some n) (last_below l n)
 
 -- the kept world, moved on to the place `to`
+abbrev pub moved_by : Result Ran Refusal → Kept → ℕ → Kept
+moved_by (Err r) k to = k
+moved_by (Ok r) k to = record { world = r.world; from = to }
+
 unfoldable pub moved : Table → List ℕ → Kept → ℕ → Kept
-moved table l k to =
-    cond (leb to k.from) k (record { world = (ran_of (judge (step table) 0 k.world (take (to - k.from) (drop k.from l)))).world; from = to })
+moved table l k to = cond (leb to k.from) k (moved_by (ran_of (judge (step table) 0 k.world (take (to - k.from) (drop k.from l)))) k to)
 
 unfoldable pub at_start : Table → Kept
 at_start table = record { world = start table; from = 0 }
@@ -70,19 +81,18 @@ nearer table l k p =
     cond (leb (p - base.from) (2 * near)) base (moved table l base (p - near))
 
 abbrev pub empty : Path
-empty = record { list = replicate max_list 0; later = replicate max_list 0; at = 0; end = end.Unfinished }
+empty = record { list = replicate max_list 0; later = replicate max_list None; at = 0; verdict = None }
 
 unfoldable pub begun : Table → Walker
-begun table = record { table = table; path = completed table max_list (start table) empty 0; kept = at_start table; over = false }
+begun table = record { table = table; path = completed table max_list (start table) empty 0; kept = at_start table }
 
--- the run of a table raised at the place before the one that is given; 0 for none
-unfoldable pub raised_at : Table → Walker → ℕ → Walker
-raised_at table w zero = record { table = table; path = w.path; kept = w.kept; over = true }
-raised_at table w (suc p) =
+-- the run of a table raised to the decision d at the place p
+unfoldable pub raised_at : Table → Walker → ℕ → ℕ → Walker
+raised_at table w p d =
     let l = w.path.list in
     let kept = nearer table l w.kept p in
-    let stem : Path = record { list = l; later = w.path.later; at = p; end = w.path.end } in
-    record { table = table; path = completed table (max_list - p) (moved table l kept p).world stem (get_or w.path.later p 0); kept = kept; over = false }
+    let stem : Path = record { list = l; later = w.path.later; at = p; verdict = None } in
+    record { table = table; path = completed table (max_list - p) (moved table l kept p).world stem d; kept = kept }
 
-unfoldable pub advanced : Walker → Walker
-advanced w = raised_at w.table w (last_below w.path.later (min w.path.at max_list))
+unfoldable pub advanced : Walker → Option Walker
+advanced w = option_and_then (λ p. option_map (raised_at w.table w p) (get_or w.path.later p None)) (last_below w.path.later (min w.path.at max_list))

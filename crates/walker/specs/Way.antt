@@ -2,10 +2,9 @@
 --     Reaches w l v     the decisions of l lead from w to v, where another is wanted
 --     laters w l        at each place of l the smallest larger decision that is allowed
 --     later-none, later_at_lem   the next list, by the last place whose larger decision is below `top`
-use Rattle.std.specs.Prelude.{◌≡◌, ◌⊎◌, take, get_or}
+use Rattle.std.specs.Prelude.{◌≡◌, ◌⊎◌, take, get_or, None, Some}
 use Rattle.std.proofs.Math.Path.{refl, ap}
 use Rattle.std.proofs.Common.{sym, ◌∙◌, subst, inl, inr}
-use Rattle.std.proofs.Math.Option.{none, some}
 use mathlib.Core.List.{List, [], ◌∷◌, ◌++◌}
 use Prim.Native.Nat.{ℕ, zero, suc, ◌+◌, ◌≤◌, ◌<◌}
 use native.Mathlib.Omega.{arith}
@@ -94,7 +93,7 @@ module _ {W Verdict : Type 0} (decide : W → ℕ → Outcome W Verdict) where
     laters_front [] b c w u e = refl
     laters_front (d ∷ a) b c w u r = rw r.1 (ap (λ (k : List ℕ). larger decide top w d ∷ k) (laters_front a b c r.0 u r.2))
 
-    pub later-none : (l : List ℕ) (w : W) → Complete decide w l → ((i : ℕ) → i < length l → top ≤ get_or (laters w l) i 0) → later decide top left w l ≡ none
+    pub later-none : (l : List ℕ) (w : W) → Complete decide w l → ((i : ℕ) → i < length l → top ≤ get_or (laters w l) i 0) → later decide top left w l ≡ None
     unfolding later laters
     later-none [] w c h = refl
     later-none (d ∷ l) w c h = go (complete_cases decide w d l c) (λ u. later-none l u)
@@ -102,19 +101,19 @@ module _ {W Verdict : Type 0} (decide : W → ℕ → Outcome W Verdict) where
         none_here : top ≤ larger decide top w d
         none_here = h 0 (omega arith)
 
-        go : Done decide w d l ⊎ Wants decide w d l → ((u : W) → Complete decide u l → ((i : ℕ) → i < length l → top ≤ get_or (laters u l) i 0) → later decide top left u l ≡ none)
-            → later decide top left w (d ∷ l) ≡ none
+        go : Done decide w d l ⊎ Wants decide w d l → ((u : W) → Complete decide u l → ((i : ℕ) → i < length l → top ≤ get_or (laters u l) i 0) → later decide top left u l ≡ None)
+            → later decide top left w (d ∷ l) ≡ None
         go (inl a) ih = rw (a.1, le-ltb (larger decide top w d) top none_here)
         go (inr a) ih = rw (a.1, ih a.0 a.2 (λ i k. let z = h (suc i) (omega (arith, k)) in rw a.1 at z), le-ltb (larger decide top w d) top none_here)
 
     pub later_at_lem : (l : List ℕ) (p : ℕ) (w v : W) → Complete decide w l → Reaches w (take p l) v → p < length l → get_or (laters w l) p 0 < top
-        → ((i : ℕ) → p < i → i < length l → top ≤ get_or (laters w l) i 0) → later decide top left w l ≡ some (take p l ++ raised decide top left v (get_or (laters w l) p 0))
+        → ((i : ℕ) → p < i → i < length l → top ≤ get_or (laters w l) i 0) → later decide top left w l ≡ Some (take p l ++ raised decide top left v (get_or (laters w l) p 0))
     unfolding later laters
     later_at_lem [] p w v c r h b n = absurd (complete-nil decide w c)
     later_at_lem (d ∷ l) zero w v c r h b n =
-        go (complete_cases decide w d l c) ∙ ap (λ (x : W). some (raised decide top left x (larger decide top w d))) r
+        go (complete_cases decide w d l c) ∙ ap (λ (x : W). Some (raised decide top left x (larger decide top w d))) r
       where
-        go : Done decide w d l ⊎ Wants decide w d l → later decide top left w (d ∷ l) ≡ some (raised decide top left w (larger decide top w d))
+        go : Done decide w d l ⊎ Wants decide w d l → later decide top left w (d ∷ l) ≡ Some (raised decide top left w (larger decide top w d))
         go (inl a) = rw (a.1, lt-ltb (larger decide top w d) top b)
         go (inr a) = rw (a.1, later-none l a.0 a.2 (λ i k. let z = n (suc i) (omega arith) (omega (arith, k)) in rw a.1 at z), lt-ltb (larger decide top w d) top b)
     later_at_lem (d ∷ l) (suc p) w v c r h b n =

@@ -3,26 +3,25 @@
 
 ghost use Rattle.std.specs.Prelude.{◌≡◌, ◌-◌, ◌≤◌, length};
 ghost use Rattle.rules.specs.Limits.{max_list};
-ghost use Rattle.rules.specs.Walk.{decisions};
 ghost use Rattle.walker.specs.Walking.{completed, last_below, moved, at_start, nearer, begun, advanced};
 
-use clocks::THREADS;
+use rules::answer::Answer;
 use rules::table::{LIST, Table};
 use rules::world::World;
 use turns::start;
-use turns_run::{End, run};
+use turns_run::run;
 use turns_steps::least;
 
 // A kept world stands this far before the place of a change, and is moved on where it stands more than twice as far.
 const NEAR: usize = 3;
 
-// A run: the first `at` bytes of its list, at each place the smallest larger decision that is allowed (THREADS or more if there is none), and its end.
+// A run: the first `at` bytes of its list, at each place the smallest larger decision that is allowed, and its verdict.
 #[derive(Clone, Copy)]
 pub struct Path {
     pub list: [u8; LIST],
-    pub later: [u8; LIST],
+    pub later: [Option<u8>; LIST],
     pub at: usize,
-    pub end: End,
+    pub verdict: Option<Answer>,
 }
 
 // The world before the decision `from` of a list.
@@ -32,69 +31,45 @@ pub struct Kept {
     pub from: usize,
 }
 
-// A walk: where it stands, and whether no run is left.
+// A walk, where it stands.
 #[derive(Clone, Copy)]
 pub struct Walker {
     pub table: Table,
     pub path: Path,
     pub kept: Kept,
-    pub over: bool,
 }
 
 // The smallest allowed decision that is `low` or more, and then the smallest ones, until the run ends.
-fn complete(table: Table, world: World, path: Path, low: u8) -> Path
-    requires { low ≤ decisions }
+fn complete(table: Table, mut world: World, mut path: Path, low: u8) -> Path
     ensures { result ≡ completed table (max_list - path.at) world path low }
 {
-    let mut w = world;
-    let mut list = path.list;
-    let mut later = path.later;
-    let mut at = path.at;
-    let mut end = path.end;
     let mut from = low as usize;
-    while at < LIST {
-        let asked = w.asked;
-        let threads = w.threads;
-        let d = least(asked, threads, from) as u8;
-        let e = least(asked, threads, d as usize + 1) as u8;
-        let one = [d];
-        let ran = run(table, w, &one);
-        list[at] = d;
-        later[at] = e;
-        at += 1;
-        end = ran.end;
-        let End::Unfinished = end else {
-            return Path {
-                list: list,
-                later: later,
-                at: at,
-                end: end,
-            };
+    for at in path.at..LIST {
+        let Some(d) = least(world.asked, world.threads, from) else {
+            return path;
         };
-        w = ran.world;
+        path.list[at] = d;
+        path.later[at] = least(world.asked, world.threads, d as usize + 1);
+        path.at = at + 1;
+        let Ok(ran) = run(table, world, &[d]) else {
+            return path;
+        };
+        path.verdict = ran.verdict;
+        if ran.verdict.is_some() {
+            return path;
+        }
+        world = ran.world;
         from = 0;
     }
-    Path {
-        list: list,
-        later: later,
-        at: at,
-        end: end,
-    }
+    path
 }
 
-// One more than the last place before n where a larger decision is allowed; 0 if there is none.
-fn last_below(later: &[u8], n: usize) -> usize
+// The last of the first n places where a larger decision is allowed.
+fn last_below(later: &[Option<u8>], n: usize) -> Option<usize>
     requires { n ≤ length later.now }
     ensures { result ≡ last_below later.now n }
 {
-    let mut i = n;
-    while i > 0 {
-        if later[i - 1] < THREADS as u8 {
-            return i;
-        }
-        i -= 1;
-    }
-    0
+    later[..n].iter().rposition(|e| e.is_some())
 }
 
 // The kept world, moved on to the place `to`.
@@ -102,16 +77,15 @@ fn moved(table: Table, list: &[u8], kept: Kept, to: usize) -> Kept
     requires { to ≤ length list.now }
     ensures { result ≡ moved table list.now kept to }
 {
-    let from = kept.from;
-    if to <= from {
+    if to <= kept.from {
         return kept;
     }
-    let world = kept.world;
-    let ran = run(table, world, &list[from..to]);
-    let then = ran.world;
-    Kept {
-        world: then,
-        from: to,
+    match run(table, kept.world, &list[kept.from..to]) {
+        Ok(ran) => Kept {
+            world: ran.world,
+            from: to,
+        },
+        Err(_) => kept,
     }
 }
 
@@ -141,56 +115,37 @@ pub fn begin(table: Table) -> Walker
     ensures { result ≡ begun table }
 {
     let kept = at_start(table);
-    let world = kept.world;
-    let empty = [0u8; LIST];
     let none = Path {
-        list: empty,
-        later: empty,
+        list: [0; LIST],
+        later: [None; LIST],
         at: 0,
-        end: End::Unfinished,
+        verdict: None,
     };
     Walker {
-        table: table,
-        path: complete(table, world, none, 0),
-        kept: kept,
-        over: false,
+        table,
+        path: complete(table, kept.world, none, 0),
+        kept,
     }
 }
 
-// The next run: the last decision that can be raised is, and then the smallest ones follow. Where none can be, the walk is over.
-pub fn advance(w: Walker) -> Walker
+// The next run: the last decision that can be raised is, and then the smallest ones follow. Where none can be, no run is left.
+pub fn advance(w: Walker) -> Option<Walker>
     ensures { result ≡ advanced w }
 {
     let table = w.table;
     let path = w.path;
-    let list = path.list;
-    let later = path.later;
-    let end = path.end;
-    let before = w.kept;
-    let n = if path.at < LIST { path.at } else { LIST };
-    let i = last_below(&later, n);
-    if i == 0 {
-        return Walker {
-            table: table,
-            path: path,
-            kept: before,
-            over: true,
-        };
-    }
-    let p = i - 1;
-    let kept = nearer(table, &list, before, p);
-    let here = moved(table, &list, kept, p);
-    let world = here.world;
+    let p = last_below(&path.later, path.at.min(LIST))?;
+    let d = path.later[p]?;
+    let kept = nearer(table, &path.list, w.kept, p);
+    let here = moved(table, &path.list, kept, p);
     let stem = Path {
-        list: list,
-        later: later,
         at: p,
-        end: end,
+        verdict: None,
+        ..path
     };
-    Walker {
-        table: table,
-        path: complete(table, world, stem, later[p]),
-        kept: kept,
-        over: false,
-    }
+    Some(Walker {
+        table,
+        path: complete(table, here.world, stem, d),
+        kept,
+    })
 }

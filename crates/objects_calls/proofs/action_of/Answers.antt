@@ -1,7 +1,6 @@
 -- `action_of` meets its contract: its action, a kind at a time.
 use mathlib.Core.Path.{ap}
 use Rattle.rules.specs.declared.object.Action.TheVariants.{Arc, Channel, RwLock}
-use borrow.Author.Rules.{rules}
 use Rattle.objects_calls.proofs.action_of.Goals as goal
 
 pub returns-in-Mutex : goal.returns-in-Mutex

@@ -2,7 +2,6 @@
 use mathlib.Core.Path.{◌∙◌, ap}
 use Rattle.rules.specs.Ground.{set_blocked}
 use Rattle.rules.specs.Object.{announced}
-use borrow.Author.Rules.{rules}
 use Rattle.objects_calls.proofs.branch_disable.Goals as goal
 
 pub returns-then-disable : goal.returns-then-disable

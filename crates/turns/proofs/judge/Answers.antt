@@ -1,14 +1,13 @@
--- `judge` meets its contract: a refused table's answer, or the judgement of the table.
-use mathlib.Core.Path.{◌∙◌}
-use Rattle.turns.specs.Start.{judged_refused, judged_accepted}
+-- A refused table's answer, or the judgement of the table.
+use Rattle.std.proofs.Common.{sym, ◌∙◌, ap}
+use Rattle.rules.specs.Table.{Read}
+use Rattle.rules.specs.Judge.{judge_of, judge_table}
 use Rattle.turns.proofs.judge.Goals as goal
 
-pub returns-in_default : goal.returns-in_default
-returns-in_default c =
-    let a = c.args in
-    c.judged.ensures ∙ judged_accepted a.table.now _ c.read_table-read.ensures a.list.now a.sheet.now c.in_default.is
+pub returns-in-Ok : goal.returns-in-Ok
+unfolding judge_of
+returns-in-Ok c = c.judged.ensures ∙ sym (ap (λ (r : Read). judge_table r c.args.list.now c.args.sheet.now) (sym c.read_table.ensures ∙ c.in-Ok.is))
 
-pub returns : goal.returns
-returns c =
-    let a = c.args in
-    judged_refused a.table.now _ c.read_table-read.ensures a.list.now a.sheet.now _ c.in-Refused.is
+pub returns-in-Err : goal.returns-in-Err
+unfolding judge_of judge_table
+returns-in-Err c = sym (ap (λ (r : Read). judge_table r c.args.list.now c.args.sheet.now) (sym c.read_table.ensures ∙ c.in-Err.is))

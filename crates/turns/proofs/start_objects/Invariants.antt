@@ -1,11 +1,10 @@
--- `start_objects` meets its contract: it is a pass.
-use mathlib.Core.Path.{◌≡◌}
-use Prim.Native.Nat.{◌≤◌}
-use lib.ListN.{length}
+-- The first k objects are made.
+use Rattle.std.proofs.Common.{◌≡◌, replicate}
 use Rattle.clocks.specs.Pass.{passed}
-use Rattle.turns.specs.Start.{made_at}
 use Rattle.rules.specs.Limits.{max_objects}
+use Rattle.rules.specs.Object.{no_object, new_entry}
+use Rattle.turns.specs.Start.{made_at}
 use Rattle.turns.proofs.start_objects.Given as goal
 
 abbrev pub invariant-loop-k : goal.invariant-loop-k
-invariant-loop-k l = (l.k ≤ max_objects) × (length l.objects ≡ max_objects) × (length l.initial.out ≡ max_objects) × (l.out ≡ passed (made_at l.objects) l.k 0 l.initial.out)
+invariant-loop-k l = l.store ≡ passed (made_at l.made-items) l.k 0 (replicate max_objects (new_entry no_object))

@@ -1,31 +1,11 @@
--- `any_runnable` meets its contract. The loop's invariant: it is what is found from the k-th thread on.
-use mathlib.Core.Path.{◌≡◌, refl, sym, ◌∙◌, ap}
-use mathlib.Core.Bool.{true, false}
-use mathlib.Core.List.{List}
-use native.Mathlib.Omega.{arith}
-use lib.ListN.{length, drop_of_length-le}
+-- The library's search is 01's.
+use Rattle.std.proofs.Common.{rules, sym, ◌∙◌}
+use Rattle.std.proofs.lemmas.Iterator.{YieldsList-from_slice}
+use Rattle.std.proofs.lemmas.Iterator.Search.{any_from_yields_List}
 use Rattle.rules.specs.declared.thread.Thread.{Thread}
-use Rattle.rules.specs.Turn.{any_runnable}
-use Rattle.rules.proofs.AfterLaws.{runnable_at}
-use borrow.Author.Rules.{rules}
+use Rattle.rules.specs.Ground.{is_runnable}
+use Rattle.turns_after.proofs.Searches.{any_runnable_is}
 use Rattle.turns_after.proofs.any_runnable.Goals as goal
 
-pub loop-k-init : goal.loop-k-init
-loop-k-init c = let ts : List Thread = c.args.threads in let l : length ts ≡ 6 = search rules in (omega arith, l, refl)
-
-pub returns-then-is_runnable : goal.returns-then-is_runnable
-returns-then-is_runnable c =
-    let v = c.loop-k in
-    sym (v.invariant.2 ∙ runnable_at _ v.k _ (omega (arith, c.loop-k-test.true, v.invariant.1)) true (sym c.is_runnable.ensures ∙ c.if-is_runnable.true))
-
-pub loop-k-preserved : goal.loop-k-preserved
-loop-k-preserved c =
-    let v = c.loop-k in
-    (omega arith, v.invariant.1, v.invariant.2 ∙ runnable_at _ v.k _ (omega (arith, c.loop-k-test.true, v.invariant.1)) false (sym c.is_runnable.ensures ∙ c.if-is_runnable.false))
-
 pub returns : goal.returns
-unfolding any_runnable
-returns c =
-    let v = c.loop-k in
-    let ts : List Thread = c.args.threads in
-    sym (v.invariant.2 ∙ ap any_runnable (drop_of_length-le ts {i = v.k} (omega arith)))
+returns c = any_from_yields_List (λ (t : Thread). is_runnable t.state) _ _ _ c.any.ensures.ran (YieldsList-from_slice c.args.threads cc) (λ x b q k. search rules) ∙ sym (any_runnable_is c.args.threads)

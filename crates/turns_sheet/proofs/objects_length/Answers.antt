@@ -1,39 +1,26 @@
--- `objects_length` meets its contract. The loop's invariant: the records of the first i objects are counted.
-use mathlib.Core.Path.{◌≡◌, refl, sym, ◌∙◌, ap}
-use mathlib.Core.List.{List}
-use Prim.Native.Nat.{ℕ, ◌+◌, ◌≤◌, ◌-◌, min}
-use native.Mathlib.Omega.{arith}
-use lib.ListN.{length, take}
-use Rattle.clocks.specs.Lists.{take_min}
+-- The chain gives the length of each object's record.
+use Rattle.std.proofs.Common.{◌≡◌, ◌≤◌, ◌∙◌, sym, ◌^◌, ◌+◌, List, take, length, length-take, rules, arith}
+use Rattle.std.proofs.lemmas.Iterator.{YieldsList-from_slice, YieldsList-from_take, YieldsList-from_map}
+use Rattle.std.proofs.lemmas.Iterator.Adapters.{at_most_from_yields_List, fits_from_length, total_from_yields_List}
+use Rattle.std.proofs.lemmas.List.Sums.{sum-map}
 use Rattle.rules.specs.declared.table.Made.{Made}
 use Rattle.rules.specs.Limits.{max_objects}
-use Rattle.rules.specs.Sheet.{objects_length}
-use Rattle.rules.proofs.SheetLaws.{record_small, first_small, objects_longer}
-use borrow.Author.Rules.{rules}
+use Rattle.rules.specs.Sheet.{record_length}
+use Rattle.rules.proofs.SheetLaws.{record_small}
+use Rattle.turns_sheet.proofs.Lengths.{length_sum}
 use Rattle.turns_sheet.proofs.objects_length.Goals as goal
 
-pub loop-i-init : goal.loop-i-init
-unfolding objects_length
-loop-i-init c = (search rules, refl)
-
-pub overflow_add-size : goal.overflow_add-size
-overflow_add-size c =
+pub sum-requires-clause-fits : goal.sum-requires-clause-fits
+sum-requires-clause-fits c =
     let ms : List Made = c.args.objects in
-    let l = c.loop-i in
-    let small : c.record_length-size.result ≤ 104 = rw c.record_length-size.ensures (record_small _) in
-    omega (arith, first_small ms l.i)
-
-pub loop-i-preserved : goal.loop-i-preserved
-loop-i-preserved c =
-    let ms : List Made = c.args.objects in
-    let n : length ms ≡ max_objects = search rules in
-    let l = c.loop-i in
-    (search rules, (λ i. l.invariant.1 i + c.record_length-size.ensures i) ∙ sym (objects_longer ms l.i _ (omega arith)))
+    let few : length (take c.args.count ms) ≤ max_objects = omega (arith, length-take c.args.count ms) in
+    fits_from_length _ _ max_objects (2 ^ 64) (at_most_from_yields_List (YieldsList-from_take c.args.count (YieldsList-from_slice ms cc) cc) few) c.map.ensures.closure (omega arith)
+    (λ x r q k. let is : (q ≡ record {}) × (r ≡ record_length x.now.kind) = search rules in (is.0, omega (arith, record_small x.now.kind)))
 
 pub returns : goal.returns
 returns c =
-    let a = c.args in
-    let ms : List Made = a.objects in
-    let n : length ms ≡ max_objects = search rules in
-    let all : c.loop-i.i ≡ min a.count (length ms) = omega arith in
-    c.loop-i.invariant.1 ∙ ap (λ (j : ℕ). objects_length (take j ms)) all ∙ ap objects_length (take_min a.count ms)
+    let ms : List Made = c.args.objects in
+    total_from_yields_List (λ a x. a + x) 0 c.sum.result c.sum.ensures.ran
+    (YieldsList-from_map _ (λ (m : Made). record_length m.kind) (YieldsList-from_take c.args.count (YieldsList-from_slice ms cc) cc) c.map.ensures.closure (λ x r q k. search rules))
+    ∙ sum-map (λ (m : Made). record_length m.kind) (take c.args.count ms)
+    ∙ sym (length_sum (take c.args.count ms))

@@ -1,48 +1,45 @@
--- `put_objects` meets its contract. The loop's invariant: the first i objects are written, and `at` is where they end.
-use mathlib.Core.Path.{◌≡◌, refl, sym, ◌∙◌, ap}
-use mathlib.Core.List.{List}
-use Prim.Native.Nat.{ℕ, ◌+◌, ◌≤◌, ◌-◌, min}
-use native.Mathlib.Nat.{add-zero, add_assoc}
-use native.Mathlib.Omega.{arith}
-use lib.ListN.{length, take}
-use lib.Seq.{sets, length-sets}
-use Rattle.clocks.specs.Lists.{take_min}
+-- A turn writes the next object where the ones before it end, and the loop ends with the objects that the table counts.
+use Rattle.std.proofs.Common.{◌*◌, ◌∙◌, refl, ap, length, rules, arith}
+use Rattle.std.proofs.lemmas.List.Edits.{sets}
+use Rattle.std.proofs.lemmas.List.{length_push, take_min}
+use Rattle.rules.specs.Limits.{thread_record}
 use Rattle.rules.specs.declared.table.Made.{Made}
-use Rattle.rules.specs.declared.object.Entry.{Entry}
-use Rattle.rules.specs.Limits.{max_objects}
-use Rattle.rules.specs.Sheet.{objects_bytes, objects_length}
+use Rattle.rules.specs.Sheet.{object_bytes, objects_bytes, objects_length, record_length}
 use Rattle.rules.proofs.SheetLaws.{record_small, first_small, objects_longer, objects_written}
-use borrow.Author.Rules.{rules}
+use Rattle.turns_sheet.proofs.Turns.{PairAt, pair_turn, pair_end}
 use Rattle.turns_sheet.proofs.put_objects.Goals as goal
 
-pub loop-i-init : goal.loop-i-init
+turn : (c : goal.After-record_length-at) → PairAt c.args.objects c.args.entries.now (length c.loop-made.yielded) (c.in-Some.made, c.in-Some.e)
+turn c =
+    let l = c.loop-made in
+    pair_turn c.args.objects c.args.entries.now c.args.count l.yielded c.into_iter-made-iterator.result l.made-iterator c.next.new.self (search rules) (search rules) (search rules) l.yielded_by (c.in-Some.made, c.in-Some.e) c.in-Some.ensures.steps
+
+pub loop-made-init : goal.loop-made-init
 unfolding objects_bytes objects_length
-loop-i-init c = (search rules, sym (add-zero _), refl)
+loop-made-init c = record { place = omega (arith, c.from-at.ensures); bytes = refl }
 
 pub overflow_add-at : goal.overflow_add-at
 overflow_add-at c =
-    let l = c.loop-i in
-    let small : c.record_length-at.result ≤ 104 = rw c.record_length-at.ensures (record_small _) in
-    omega (arith, l.invariant.1, first_small c.args.objects l.i)
+    let l = c.loop-made in
+    omega (arith, (turn c).0, l.invariant.place, c.record_length-at.ensures, record_small c.in-Some.made.now.kind, first_small c.args.objects (length l.yielded))
 
-pub loop-i-preserved : goal.loop-i-preserved
-loop-i-preserved c =
-    let a = c.args in
-    let l = c.loop-i in
-    let ms : List Made = a.objects in
-    let es : List Entry = a.entries in
-    let n : length ms ≡ max_objects = search rules in
-    let k : length es ≡ max_objects = search rules in
-    let more = (λ i. l.invariant.1 i + c.record_length-at.ensures i) ∙ add_assoc _ _ _ ∙ ap (λ (j : ℕ). a.from + j) (sym (objects_longer ms l.i _ (omega arith))) in
-    (search rules, more, objects_written a.sheet.now a.from ms es l.i l.at _ _ (omega arith) (omega arith) l.invariant.2 l.invariant.1 c.put_object.ensures)
+pub loop-made-preserved : goal.loop-made-preserved
+loop-made-preserved c =
+    let l = c.loop-made in
+    let ms = c.args.objects in
+    let here = turn c in
+    let made = c.in-Some.made.now in
+    let same = here.2 made in
+    let next = c.put_object.ensures ∙ (λ i. sets l.sheet l.at (object_bytes (same i).kind (here.3 c.in-Some.e.now i))) in
+    let longer = objects_longer ms (length l.yielded) made here.0 in
+    rw (length_push l.yielded (c.in-Some.made, c.in-Some.e)) record {
+      place = omega (arith, longer, l.invariant.place, c.record_length-at.ensures, ap (λ (m : Made). record_length m.kind) same);
+      bytes = objects_written c.args.sheet.now (thread_record * c.args.threads) ms c.args.entries.now (length l.yielded) l.at made c.in-Some.e.now here.0 here.1 l.invariant.bytes l.invariant.place next;
+    }
 
 pub returns : goal.returns
 returns c =
-    let a = c.args in
-    let l = c.loop-i in
-    let ms : List Made = a.objects in
-    let n : length ms ≡ max_objects = search rules in
-    let all : l.i ≡ min a.count (length ms) = omega arith in
-    l.invariant.2
-    ∙ ap (λ (j : ℕ). sets a.sheet.now a.from (objects_bytes (take j ms) a.entries)) all
-    ∙ ap (λ (os : List Made). sets a.sheet.now a.from (objects_bytes os a.entries)) (take_min a.count ms)
+    let l = c.loop-made in
+    let ms = c.args.objects in
+    let all = pair_end ms c.args.entries.now c.args.count l.yielded c.into_iter-made-iterator.result l.made-iterator c.next.new.self (search rules) (search rules) (search rules) l.yielded_by (omega arith) c.in-None.ensures.steps in
+    l.invariant.bytes ∙ ap (λ ks. sets c.args.sheet.now (thread_record * c.args.threads) (objects_bytes ks c.args.entries.now)) (rw all (take_min c.args.count ms))

@@ -1,6 +1,5 @@
--- `read_table` meets its contract. The loop's invariant: the whole table comes to what the rest from `at` on comes to.
-use Prim.Native.Nat.{◌-◌, ◌≤◌}
-use lib.ListN.{length}
+-- The whole table comes to what the rest from `at` on comes to.
+use Rattle.std.proofs.Common.{◌-◌, ◌≤◌, length}
 use Rattle.clocks.specs.Clock.{max_threads}
 use Rattle.rules.proofs.TableLaws.{Reading}
 use Rattle.turns_table.proofs.read_table.Given as goal

@@ -1,10 +1,8 @@
--- `walk::advance` meets its contract.
-use Rattle.walk.specs.Decided.{least_small, advances}
-use borrow.Author.Rules.{rules}
+use Rattle.walk.specs.Decided.{advances, some_least}
 use Rattle.walk.proofs.advance.Goals as goal
 
-pub overflow_cast-d : goal.overflow_cast-d
-overflow_cast-d c = let h = least_small _ _ c.least-d.ensures in search rules
+pub returns-in-Some : goal.returns-in-Some
+returns-in-Some c = advances c.args.c.now c.in-Some.d c.least.result c.least.ensures c.in-Some.is c.extend.new.c c.extend.result c.extend.ensures
 
-pub returns : goal.returns
-returns c = advances c.args.c.now c.least-d.result c.least-d.ensures c.extend.new.c c.extend.result c.extend.ensures
+pub returns-in-None : goal.returns-in-None
+returns-in-None c = absurd (some_least c.args.c.now c.requires c.least.result c.least.ensures c.in-None.is)

@@ -1,23 +1,19 @@
--- `walk::continued` meets its contract.
-use mathlib.Core.Path.{subst}
+use Rattle.std.proofs.Common.{subst}
 use Rattle.walk.specs.Says.{Extends}
 use Rattle.walk.specs.Completing.{extended_last, extended_ready, extended_on}
 use Rattle.walk.proofs.continued.Goals as goal
 
-pub completed-requires : goal.completed-requires
-completed-requires c =
+pub complete-requires : goal.complete-requires
+complete-requires c =
     let a = c.args in
-    let r = c.extended-r in
-    extended_ready a.c a.d r.result.completion c.requires (subst (Extends a.c a.d r.result.completion) c.if-r.true r.ensures)
+    extended_ready a.c a.d c.extend.new.c c.requires (subst (Extends a.c a.d c.extend.new.c) c.if-extend.true c.extend.ensures)
 
-pub returns-then-r : goal.returns-then-r
-returns-then-r c =
+pub returns-then-extend : goal.returns-then-extend
+returns-then-extend c =
     let a = c.args in
-    let r = c.extended-r in
-    extended_on a.c a.d r.result.completion c.requires (subst (Extends a.c a.d r.result.completion) c.if-r.true r.ensures) c.completed.result c.completed.ensures
+    extended_on a.c a.d c.extend.new.c c.requires (subst (Extends a.c a.d c.extend.new.c) c.if-extend.true c.extend.ensures) c.complete.new.c c.complete.ensures
 
-pub returns : goal.returns
-returns c =
+pub returns-else-extend : goal.returns-else-extend
+returns-else-extend c =
     let a = c.args in
-    let r = c.extended-r in
-    extended_last a.c a.d r.result.completion c.requires (subst (Extends a.c a.d r.result.completion) c.if-r.false r.ensures)
+    extended_last a.c a.d c.extend.new.c c.requires (subst (Extends a.c a.d c.extend.new.c) c.if-extend.false c.extend.ensures)

@@ -1,19 +1,17 @@
--- `walk::next` meets its contract: a refused table's answer, or what the table's next list comes to.
-use mathlib.Core.Path.{◌∙◌}
-use Rattle.walk.specs.Handed.{started, next-refused, next_accepted}
+-- A refused table's answer, or what the table's next list comes to.
+use Rattle.std.proofs.Common.{sym, ◌∙◌, ap}
+use Rattle.rules.specs.Table.{Read}
+use Rattle.rules.specs.Walk.{next_of, next_table}
+use Rattle.walk.specs.Handed.{started}
 use Rattle.walk.proofs.next.Goals as goal
 
 pub next_of-requires : goal.next_of-requires
-next_of-requires c =
-    let a = c.args in
-    let read = c.read_table-read in
-    started a.table.now read.result read.ensures c.in_default.is
+next_of-requires c = started c.args.table.now _ (sym c.read_table.ensures ∙ c.in-Ok.is)
 
-pub returns-in_default : goal.returns-in_default
-returns-in_default c =
-    let a = c.args in
-    let read = c.read_table-read in
-    c.next_of.ensures ∙ next_accepted a.table.now read.result read.ensures a.out.now a.list.now c.in_default.is
+pub returns-in-Ok : goal.returns-in-Ok
+unfolding next_of
+returns-in-Ok c = c.next_of.ensures ∙ sym (ap (λ (r : Read). next_table r c.args.list.now c.args.out.now) (sym c.read_table.ensures ∙ c.in-Ok.is))
 
-pub returns : goal.returns
-returns c = let a = c.args in next-refused a.table.now _ c.read_table-read.ensures a.out.now a.list.now _ c.in-Refused.is
+pub returns-in-Err : goal.returns-in-Err
+unfolding next_of next_table
+returns-in-Err c = sym (ap (λ (r : Read). next_table r c.args.list.now c.args.out.now) (sym c.read_table.ensures ∙ c.in-Err.is))

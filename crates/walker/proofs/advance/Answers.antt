@@ -1,65 +1,34 @@
--- `walker::advance` meets its contract.
-use Rattle.std.proofs.Common.{◌≡◌, ◌-◌, ◌<◌, min, length, get_or, sym, arith, rules}
+use Rattle.std.proofs.Common.{◌≡◌, ◌<◌, Some, min, sym, ◌∙◌, ap, subst, arith, rules}
 use Rattle.rules.specs.Limits.{max_list}
-use Rattle.rules.specs.Walk.{decisions}
-use Rattle.walker.specs.Steps.{found_in, found_decision, advanced-over, advanced_on}
+use Rattle.walker.specs.Walking.{last_below}
+use Rattle.walker.specs.Steps.{Last, last_is, advanced_not, advanced-none, advanced_on}
 use Rattle.walker.proofs.advance.Goals as goal
-use Rattle.walker.proofs.advance.Goals.{Joined-path-lt-LIST, Else-i-eq0, then-path-lt-LIST, else-path-lt-LIST}
+use Rattle.walker.proofs.advance.Goals.{In_ok-p}
 
--- the run's length, within its buffer
-module _ (c : Joined-path-lt-LIST) where
-  long : length c.args.w.path.list ≡ max_list
-  long = search rules
+-- the place of the change, within the run
+module _ (c : In_ok-p) where
+  place : last_below c.args.w.path.later (min c.args.w.path.at max_list) ≡ Some c.in_ok-p.p
+  place = sym (c.last_below.ensures ∙ ap (last_below c.args.w.path.later) c.min.ensures) ∙ c.in_ok-p.was
 
-  long_later : length c.args.w.path.later ≡ max_list
-  long_later = search rules
+  inside : c.in_ok-p.p < max_list
+  inside =
+      let last = subst (Last c.args.w.path.later (min c.args.w.path.at max_list)) place (last_is c.args.w.path.later (min c.args.w.path.at max_list)) in
+      let h = last.0 in
+      omega (arith, h)
 
-  is_n : c.if-path-lt-LIST.n ≡ min c.args.w.path.at max_list
-  is_n =
-      elim c.if-path-lt-LIST.branch [
-        | then-path-lt-LIST x ↦ let e = x.n-is in let h = x.if-path-lt-LIST.true in omega (arith, e, h)
-        | else-path-lt-LIST x ↦ let e = x.n-is in let h = x.if-path-lt-LIST.false in omega (arith, e, h)
-      ]
+pub returns-in_err-p : goal.returns-in_err-p
+returns-in_err-p c = c.from_residual.ensures ∙ advanced_not c.args.w (sym (c.last_below.ensures ∙ ap (last_below c.args.w.path.later) c.min.ensures) ∙ c.in_err-p.was)
 
--- the place of the change
-module _ (c : Else-i-eq0) (is_n : c.if-path-lt-LIST.n ≡ min c.args.w.path.at max_list) where
-  some : 0 < c.last_below-i.result
-  some = let h = c.if-i-eq0.false in omega (arith, h)
+pub offset_bounds-path-p : goal.offset_bounds-path-p
+offset_bounds-path-p c = let h = inside c in search rules
 
-  inside : c.last_below-i.result - 1 < max_list
-  inside = omega (arith, found_in c.args.w.path.later c.if-path-lt-LIST.n c.last_below-i.result c.last_below-i.ensures some, is_n)
+pub bounds-path-p : goal.bounds-path-p
+bounds-path-p c = inside c
 
-  below : get_or c.args.w.path.later (c.last_below-i.result - 1) 0 < decisions
-  below = found_decision c.args.w.path.later c.if-path-lt-LIST.n c.last_below-i.result c.last_below-i.ensures some
-
-pub last_below-i-requires : goal.last_below-i-requires
-last_below-i-requires c = let j = (goal.at.last_below-i-requires c).Joined-path-lt-LIST in omega (arith, is_n j, long_later j)
-
-pub returns-then-i-eq0 : goal.returns-then-i-eq0
-returns-then-i-eq0 c =
-    let j = (goal.at.returns-then-i-eq0 c).Joined-path-lt-LIST in
-    advanced-over c.args.w c.if-path-lt-LIST.n c.last_below-i.result (is_n j) c.last_below-i.ensures c.if-i-eq0.true
-
-pub nearer-kept-requires : goal.nearer-kept-requires
-nearer-kept-requires c =
-    let at = goal.at.nearer-kept-requires c in
-    omega (arith, inside at.Else-i-eq0 (is_n at.Joined-path-lt-LIST), long at.Joined-path-lt-LIST)
-
-pub slice_bounds-moved-end : goal.slice_bounds-moved-end
-slice_bounds-moved-end c = sym (long (goal.at.slice_bounds-moved-end c).Joined-path-lt-LIST)
-
-pub moved-here-requires : goal.moved-here-requires
-moved-here-requires c =
-    let at = goal.at.moved-here-requires c in
-    omega (arith, inside at.Else-i-eq0 (is_n at.Joined-path-lt-LIST), long at.Joined-path-lt-LIST)
-
-pub bounds-later-p : goal.bounds-later-p
-bounds-later-p c = let at = goal.at.bounds-later-p c in omega (arith, inside at.Else-i-eq0 (is_n at.Joined-path-lt-LIST))
-
-pub complete-requires : goal.complete-requires
-complete-requires c = let at = goal.at.complete-requires c in let h = below at.Else-i-eq0 (is_n at.Joined-path-lt-LIST) in omega (arith, h)
+pub returns-in_err-d : goal.returns-in_err-d
+returns-in_err-d c =
+    c.from_residual-in_err-d.ensures ∙ advanced-none c.args.w c.in_ok-p.p (place (goal.at.returns-in_err-d c).In_ok-p) c.in_err-d.was
 
 pub returns : goal.returns
 returns c =
-    let at = goal.at.returns c in
-    advanced_on c.args.w c.if-path-lt-LIST.n c.last_below-i.result (is_n at.Joined-path-lt-LIST) c.last_below-i.ensures (some at.Else-i-eq0 (is_n at.Joined-path-lt-LIST)) c.nearer-kept.result c.moved-here.result c.complete.result c.nearer-kept.ensures c.moved-here.ensures c.complete.ensures
+    advanced_on c.args.w c.in_ok-p.p (place (goal.at.returns c).In_ok-p) c.in_ok-d.d c.in_ok-d.was c.nearer-kept.result c.moved-here.result c.complete.result c.nearer-kept.ensures c.moved-here.ensures c.complete.ensures

@@ -1,4 +1,3 @@
--- `walker::begin` meets its contract.
 use Rattle.walker.specs.Steps.{begun_is}
 use Rattle.walker.proofs.begin.Goals as goal
 

@@ -1,29 +1,22 @@
--- `walker::last_below` meets its contract. The loop's invariant: what is sought among the first n places is sought among the first i.
-use mathlib.Core.Path.{◌≡◌, refl, sym, ◌∙◌, ap}
-use Prim.Native.Nat.{suc, ◌-◌}
-use native.Mathlib.Omega.{arith}
+use Rattle.std.proofs.Common.{◌≡◌, ℕ, ◌<◌, true, false, Option, Some, None, take, get_or, get_or-take, sym, ◌∙◌, ap, rules}
+use Rattle.std.specs.Option.{is_some}
 use Rattle.walker.specs.Walking.{last_below}
-use Rattle.walker.specs.Steps.{below_end, below_found, below_not}
+use Rattle.walker.specs.Steps.{last_none, last_some}
 use Rattle.walker.proofs.last_below.Goals as goal
 
-pub loop-i-init : goal.loop-i-init
-loop-i-init c = (omega arith, refl)
-
-pub returns-then-later-i : goal.returns-then-later-i
-returns-then-later-i c =
-    let l = c.loop-i in
-    let z : l.i ≡ suc (l.i - 1) = omega (arith, c.loop-i-test.true) in
-    sym (l.invariant.1 ∙ ap (last_below c.args.later.now) z ∙ below_found c.args.later.now (l.i - 1) c.if-later-i.true ∙ sym z)
-
-pub loop-i-preserved : goal.loop-i-preserved
-loop-i-preserved c =
-    let l = c.loop-i in
-    let z : l.i ≡ suc (l.i - 1) = omega (arith, c.loop-i-test.true) in
-    let h = l.invariant.0 in
-    (omega (arith, h), l.invariant.1 ∙ ap (last_below c.args.later.now) z ∙ below_not c.args.later.now (l.i - 1) c.if-later-i.false)
-
 pub returns : goal.returns
-returns c =
-    let l = c.loop-i in
-    let z : l.i ≡ 0 = omega (arith, c.loop-i-test.false) in
-    sym (l.invariant.1 ∙ ap (last_below c.args.later.now) z ∙ below_end c.args.later.now)
+returns c = go c.rposition.result (λ i. c.rposition.result)
+  where
+    -- a place of the front part
+    same : (i : ℕ) → i < c.args.n → is_some (get_or c.args.later.now i None) ≡ is_some (get_or (take c.args.n c.args.later.now) i None)
+    same i h = ap is_some (sym (get_or-take c.args.n c.args.later.now i None h))
+
+    go : (o : Option ℕ) → c.rposition.result ≡ o → o ≡ last_below c.args.later.now c.args.n
+    go None e =
+        let none : (i : ℕ) → i < c.args.n → is_some (get_or (take c.args.n c.args.later.now) i None) ≡ false = search rules in
+        last_none c.args.later.now c.args.n (λ i h. same i h ∙ none i h)
+    go (Some p) e =
+        let inside : p < c.args.n = search rules in
+        let here : is_some (get_or (take c.args.n c.args.later.now) p None) ≡ true = search rules in
+        let after : (i : ℕ) → p < i → i < c.args.n → is_some (get_or (take c.args.n c.args.later.now) i None) ≡ false = search rules in
+        last_some c.args.later.now c.args.n p (inside, same p inside ∙ here, λ i a h. same i h ∙ after i a h)

@@ -1,46 +1,47 @@
--- What is found from place i on is the mask and the lowest of those places.
-use Rattle.std.proofs.Common.{◌≡◌, ℕ, ◌-◌, List, length, sym, ◌∙◌, arith, rules}
-use borrow.Author.Tests.{lt-ltb, le-ltb}
-use Rattle.clocks.specs.Clock.{max_threads, aheads, ahead_of}
-use Rattle.clocks.proofs.Laws.{aheads-length, aheads_at, down_start, down_fits, low_fits, down_yes, down_no, down_nobody, down_found}
+-- The mask is that of the places from i on, at the end of all; its lowest bit is the lowest place's.
+use Rattle.std.proofs.Common.{◌≡◌, ℕ, ◌-◌, ◌<◌, List, Bool, length, sym, ◌∙◌, arith, rules, eq-eqb, ne_eqb}
+use Rattle.clocks.specs.Clock.{max_threads, mask_of, aheads, ahead_of}
+use Rattle.clocks.proofs.Laws.{aheads-length, aheads_at, lowest_trails, Down, down_start, down_fits, down_turn, down_end}
 use Rattle.clocks.proofs.clock.Clock.ahead.Goals as goal
+
+small : (bs : List Bool) (mask i : ℕ) → (length bs ≡ max_threads) × Down bs mask i → mask < 64
+small bs mask i v = rw v.0 at (down_fits v.1)
 
 pub loop-i-init : goal.loop-i-init
 loop-i-init c =
     let xs : List ℕ = c.args.self.counts in
     let ys : List ℕ = c.args.other.counts in
     let l : length xs ≡ max_threads = search rules in
-    let m : length ys ≡ max_threads = search rules in
-    let n : length (aheads xs ys) ≡ max_threads = aheads-length xs ys (l ∙ sym m) ∙ l in
-    (l, m, n, down_start _ max_threads (sym n))
+    let m : length xs ≡ length ys = search rules in
+    let n : length (aheads xs ys) ≡ max_threads = aheads-length xs ys m ∙ l in
+    (n, down_start _ max_threads (sym n))
 
 pub overflow_mul-mask : goal.overflow_mul-mask
-overflow_mul-mask c = let v = c.loop-i.invariant in let p = rw v.2 at (down_fits _ _ _ _ v.3) in omega arith
+overflow_mul-mask c = omega (arith, small _ _ _ c.loop-i.invariant)
 
 pub overflow_add-mask : goal.overflow_add-mask
-overflow_add-mask c = let v = c.loop-i.invariant in let p = rw v.2 at (down_fits _ _ _ _ v.3) in omega arith
-
-pub loop-i-preserved-then-counts-i : goal.loop-i-preserved-then-counts-i
-loop-i-preserved-then-counts-i c =
-    let v = c.loop-i.invariant in
-    let a = c.args in
-    let j : ℕ = c.loop-i.i - 1 in
-    (v.0, v.1, v.2, down_yes _ _ _ _ v.3 j (omega arith) (aheads_at a.self.counts _ j (v.0 ∙ sym v.1) (omega arith) ∙ lt-ltb _ _ c.if-counts-i.true))
+overflow_add-mask c = search (arith, small _ _ _ c.loop-i.invariant)
 
 pub loop-i-preserved : goal.loop-i-preserved
 loop-i-preserved c =
     let v = c.loop-i.invariant in
-    let a = c.args in
+    let xs : List ℕ = c.args.self.counts in
+    let ys : List ℕ = c.args.other.counts in
+    let l : length xs ≡ max_threads = search rules in
+    let m : length xs ≡ length ys = search rules in
     let j : ℕ = c.loop-i.i - 1 in
-    (v.0, v.1, v.2, down_no _ _ _ _ v.3 j (omega arith) (aheads_at a.self.counts _ j (v.0 ∙ sym v.1) (omega arith) ∙ le-ltb _ _ c.if-counts-i.false))
+    (v.0, rw c.from.ensures (down_turn v.1 j (omega arith) _ (aheads_at xs ys j m (omega arith))))
 
 pub returns-then-mask-eq0 : goal.returns-then-mask-eq0
 unfolding ahead_of
-returns-then-mask-eq0 c = down_nobody _ _ _ _ c.loop-i.invariant.3 c.loop-i-test.false c.if-mask-eq0.true
-
-pub overflow_cast-result : goal.overflow_cast-result
-overflow_cast-result c = let v = c.loop-i.invariant in omega (arith, low_fits _ _ _ _ v.3)
+returns-then-mask-eq0 c =
+    let e = down_end c.loop-i.invariant.1 c.loop-i-test.false in
+    rw (eq-eqb (mask_of (aheads c.args.self.counts c.args.other.counts)) 0 (omega arith))
 
 pub returns : goal.returns
 unfolding ahead_of
-returns c = down_found _ _ _ _ c.loop-i.invariant.3 c.loop-i-test.false c.if-mask-eq0.false
+returns c =
+    let v = c.loop-i.invariant in
+    let bs : List Bool = aheads c.args.self.counts c.args.other.counts in
+    let e = down_end v.1 c.loop-i-test.false in
+    rw (ne_eqb (mask_of bs) 0 (omega arith), e, lowest_trails bs 16 (omega arith) (omega arith))

@@ -1,2 +1,0 @@
--- Laws on a cell's definitions.
-pub mod Accessing
