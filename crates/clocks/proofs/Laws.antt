@@ -9,7 +9,7 @@
 --     lowest_trails                           the lowest place is the mask's lowest bit
 --     Down, down_..                           the compare's walk from the last place down
 use Rattle.std.specs.Prelude.{◌≡◌, refl, ◌≢◌, ◌↔◌, not, map, Option, None, Some, Bool, true, false, cond, List, [], ◌∷◌, ℕ, zero, suc, ◌+◌, ◌*◌, ◌^◌, ◌≤◌, ◌<◌, max, min, eqb, ltb, length, get_or, drop, set}
-use Rattle.std.proofs.Common.{sym, ◌∙◌, ap, true≢false, not-suc-le-zero, le_of_suc-le-suc, arith, length-set, length-drop, pow_mono, ext_get_or, get_or-set_same, get_or-set_other, drop-cons, ltb-true, ltb-false, eqb-true}
+use Rattle.std.proofs.Common.{sym, ◌∙◌, ap, true≢false, not-suc-le-zero, le_of_suc-le-suc, arith, length-set, length-drop, pow_mono, ext_get_or, get_or-set_same, get_or-set_other, drop-cons, ltb-true, ltb-false, eqb-true, eq-eqb, ne_eqb}
 use Rattle.std.proofs.Math.Decide.{dec_lt}
 use Rattle.std.proofs.Math.ListN.{get_or-eq_default}
 use Rattle.std.proofs.lemmas.List.{set-get_or}
@@ -154,6 +154,11 @@ lowest_first (true ∷ bs) j h = absurd (not-suc-le-zero h)
 lowest_first (false ∷ bs) zero h = refl
 lowest_first (false ∷ bs) (suc j) h = lowest_first bs j (le_of_suc-le-suc h)
 
+pub lowest_le : (bs : List Bool) → lowest_of bs ≤ length bs
+lowest_le [] = omega arith
+lowest_le (true ∷ bs) = omega arith
+lowest_le (false ∷ bs) = omega (arith, lowest_le bs)
+
 -- where the mask is not 0, its lowest bit is the lowest place's
 pub lowest_trails : (bs : List Bool) (k : ℕ) → length bs ≤ k → 0 < mask_of bs → count_trailing_zeros k (mask_of bs) ≡ lowest_of bs
 lowest_trails bs k h n =
@@ -202,33 +207,70 @@ module _ (xs ys : List ℕ) (l : length xs ≡ length ys) where
       go p None c = refl
       go p (Some a) c = absurd (omega (arith, p a.lowest.0, c.ahead))
 
--- the compare's walk down: the mask of the places from i on
-pub record Down (bs : List Bool) (mask i : ℕ) : Type 0 where
+-- the compare's walk down: what is found from place i on
+pub record Down (bs : List Bool) (mask low i : ℕ) : Type 0 where
   pub in_list : i ≤ length bs
   pub mask_is : mask ≡ mask_of (drop i bs)
+  pub low_is : low ≡ i + lowest_of (drop i bs)
 
-pub down_start : (bs : List Bool) (n : ℕ) → n ≡ length bs → Down bs 0 n
-down_start bs n e = record { in_list = omega arith; mask_is = rw (e, drop-length) }
+pub down_start : (bs : List Bool) (n : ℕ) → n ≡ length bs → Down bs 0 n n
+down_start bs n e = record {
+  in_list = omega arith;
+  mask_is = ap mask_of (sym (none n e));
+  low_is = omega (arith, ap lowest_of (none n e));
+}
+  where
+    none : (k : ℕ) → k ≡ length bs → drop k bs ≡ []
+    none k q = rw q (drop-length bs)
 
-module _ {bs : List Bool} {mask i : ℕ} (d : Down bs mask i) where
+module _ {bs : List Bool} {mask low i : ℕ} (d : Down bs mask low i) where
   pub down_fits : mask < 2 ^ length bs
   down_fits =
       let m : length (drop i bs) ≤ length bs = omega (arith, length-drop i bs) in
       omega (arith, d.mask_is, mask_fits (drop i bs), pow_mono m)
 
-  -- a turn, at the place before
-  pub down_turn : (j : ℕ) → i ≡ suc j → (b : Bool) → get_or bs j false ≡ b → Down bs (2 * mask + bool_byte b) j
-  down_turn j s b e =
-      let from : drop j bs ≡ b ∷ drop i bs = drop-cons bs j false (omega (arith, d.in_list)) ∙ cc in
-      record { in_list = omega (arith, d.in_list); mask_is = rw from (turn b) }
+  pub low_fits : low ≤ length bs
+  low_fits = omega (arith, d.in_list, d.low_is, lowest_le (drop i bs), length-drop i bs)
+
+  -- the lowest of the places from i on need not be carried along
+  pub down_here : Down bs mask (i + lowest_of (drop i bs)) i
+  down_here = record { in_list = d.in_list; mask_is = d.mask_is; low_is = refl }
+
+  module _ (j : ℕ) (s : i ≡ suc j) where
+    more : (b : Bool) → get_or bs j false ≡ b → drop j bs ≡ b ∷ drop i bs
+    more b e = drop-cons bs j false (omega (arith, d.in_list)) ∙ cc
+
+    pub down_yes : get_or bs j false ≡ true → Down bs (mask * 2 + 1) j j
+    down_yes e = record {
+      in_list = omega (arith, d.in_list);
+      mask_is = rw (more true e) (omega (arith, d.mask_is));
+      low_is = rw (more true e) (omega arith);
+    }
+
+    pub down_no : get_or bs j false ≡ false → Down bs (mask * 2) low j
+    down_no e = record {
+      in_list = omega (arith, d.in_list);
+      mask_is = rw (more false e) (omega (arith, d.mask_is));
+      low_is = rw (more false e) (omega (arith, d.low_is));
+    }
+
+    -- a turn, at the place before
+    pub down_turn : (b : Bool) → get_or bs j false ≡ b → Down bs (2 * mask + bool_byte b) (cond b j low) j
+    down_turn true e = let y = down_yes e in record { in_list = y.in_list; mask_is = omega (arith, y.mask_is); low_is = y.low_is }
+    down_turn false e = let n = down_no e in record { in_list = n.in_list; mask_is = omega (arith, n.mask_is); low_is = n.low_is }
+
+  at_last : i ≤ 0 → (mask ≡ mask_of bs) × (low ≡ lowest_of bs)
+  at_last z = go i d (omega arith)
     where
-      turn : (b : Bool) → 2 * mask + bool_byte b ≡ cond b 1 0 + 2 * mask_of (drop i bs)
-      turn true = omega (arith, d.mask_is)
-      turn false = omega (arith, d.mask_is)
+      go : (k : ℕ) → Down bs mask low k → k ≡ 0 → (mask ≡ mask_of bs) × (low ≡ lowest_of bs)
+      go zero e q = (e.mask_is, omega (arith, e.low_is))
+      go (suc k) e q = absurd (omega arith)
 
   pub down_end : i ≤ 0 → mask ≡ mask_of bs
-  down_end z = go i d (omega arith)
-    where
-      go : (k : ℕ) → Down bs mask k → k ≡ 0 → mask ≡ mask_of bs
-      go zero e q = e.mask_is
-      go (suc k) e q = absurd (omega arith)
+  down_end z = (at_last z).0
+
+  pub down_nobody : i ≤ 0 → mask ≡ 0 → None ≡ who_ahead bs
+  down_nobody z e = rw (eq-eqb (mask_of bs) 0 (omega (arith, at_last z)))
+
+  pub down_found : i ≤ 0 → (mask ≡ 0 → ⊥) → Some (record { mask = mask; lowest = record { 0 = low } }) ≡ who_ahead bs
+  down_found z n = rw ((at_last z).0, (at_last z).1, ne_eqb (mask_of bs) 0 (λ e. n ((at_last z).0 ∙ e)))
