@@ -109,6 +109,7 @@ fn settle<S: Copy>(
 }
 
 // What an operation does to its object and to the threads, which are lent; one that fails leaves both as they were.
+// Each lock's code is kept out of line: a call pays at its entry for the locals of all that is inlined there.
 pub fn effect(
     call: Call,
     active: ThreadId,

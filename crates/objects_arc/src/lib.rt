@@ -8,6 +8,7 @@ ghost use Rattle.rules.specs.Arc.{new, leaks, action_of, last_modification, last
 
 use clocks::{Clock, THREADS, ThreadId};
 use objects_ground::access;
+use objects_ground::count::one_more;
 use objects_threads::{sync_load, sync_store};
 use rules::access::Access;
 use rules::arc::{Action, Call, RefModify, State};
@@ -98,7 +99,7 @@ fn ref_inc(state: State, threads: [Thread; THREADS]) -> Effect<State>
     Effect {
         answer: None,
         state: State {
-            ref_cnt: state.ref_cnt.saturating_add(1),
+            ref_cnt: one_more(state.ref_cnt),
             ..state
         },
         threads,
@@ -174,6 +175,7 @@ fn strong_count(
     Ok(inspect(active, state.ref_cnt, state, threads))
 }
 
+#[inline(never)]
 pub fn effect(
     call: Call,
     active: ThreadId,

@@ -7,6 +7,8 @@ ghost use Rattle.rules.specs.declared.cell.Call.TheVariants.{StartRead, EndRead,
 ghost use Rattle.rules.specs.Cell.{new, is_misuse, racing, track_read, track_write, read, written, effect};
 
 use clocks::{Ahead, Clock, THREADS, ThreadId};
+use objects_ground::count::{one_less, one_more};
+use objects_ground::ending::is_fine;
 use objects_threads::{get, own_count_up};
 use rules::cell::{Call, State};
 use rules::object::{Effect, Failure};
@@ -58,8 +60,12 @@ fn track_read(clock: Clock, state: State) -> Result<(), Failure>
 fn track_write(clock: Clock, state: State) -> Result<(), Failure>
     ensures { result ≡ track_write clock state }
 {
-    racing(clock.ahead(state.write_access))?;
-    racing(clock.ahead(state.read_access))
+    let first = racing(clock.ahead(state.write_access));
+    if is_fine(first) {
+        racing(clock.ahead(state.read_access))
+    } else {
+        first
+    }
 }
 
 fn read(readers: u16, clock: Clock, state: State) -> State
@@ -97,7 +103,7 @@ fn start_read(
     track_read(clock, state)?;
     Ok(Effect {
         answer: None,
-        state: read(state.is_reading.saturating_add(1), clock, state),
+        state: read(one_more(state.is_reading), clock, state),
         threads: own_count_up(threads, active),
     })
 }
@@ -118,7 +124,7 @@ fn end_read(
     track_read(clock, state)?;
     Ok(Effect {
         answer: None,
-        state: read(state.is_reading.saturating_sub(1), clock, state),
+        state: read(one_less(state.is_reading), clock, state),
         threads,
     })
 }
@@ -164,6 +170,7 @@ fn end_write(
     })
 }
 
+#[inline(never)]
 pub fn effect(
     call: Call,
     active: ThreadId,

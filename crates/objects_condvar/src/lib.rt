@@ -132,6 +132,7 @@ fn notify_all(active: ThreadId, state: State, threads: [Thread; THREADS]) -> Eff
     }
 }
 
+#[inline(never)]
 pub fn effect(
     call: Call,
     active: ThreadId,

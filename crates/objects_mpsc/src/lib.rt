@@ -147,6 +147,7 @@ fn recv(
     })
 }
 
+#[inline(never)]
 pub fn effect(
     call: Call,
     active: ThreadId,

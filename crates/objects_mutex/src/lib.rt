@@ -112,6 +112,7 @@ fn release_lock(
     }
 }
 
+#[inline(never)]
 #[tactic(auto, unfolding(rules::specs::Mutex::effect, rules::specs::Mutex::doing))]
 pub fn effect(
     call: Call,

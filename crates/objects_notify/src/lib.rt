@@ -110,6 +110,7 @@ fn wait(
     })
 }
 
+#[inline(never)]
 pub fn effect(
     call: Call,
     active: ThreadId,

@@ -231,6 +231,7 @@ fn release_read_lock(
     ))
 }
 
+#[inline(never)]
 #[tactic(auto, unfolding(rules::specs::RwLock::effect, rules::specs::RwLock::doing))]
 pub fn effect(
     call: Call,

@@ -1,0 +1,2 @@
+-- Laws on a cell's definitions.
+pub mod Accessing
