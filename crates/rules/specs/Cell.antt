@@ -4,13 +4,12 @@ use Rattle.clocks.specs.Clock.{zero_clock, risen, join_of, inc_of, ahead_of}
 use Rattle.clocks.specs.declared.clock.Clock.{Clock}
 use Rattle.clocks.specs.declared.clock.Ahead.{Ahead}
 use Rattle.clocks.specs.declared.thread.ThreadId.{ThreadId}
-use Rattle.rules.specs.Ground.{Ending, Left, left}
 use Rattle.rules.specs.declared.object.Failure.TheVariants.{Misuse, Race}
 use Rattle.rules.specs.declared.cell.Call.{Call}
 use Rattle.rules.specs.declared.cell.Call.TheVariants.{StartRead, EndRead, StartWrite, EndWrite}
 use Rattle.rules.specs.declared.cell.State.{State}
 use Rattle.rules.specs.declared.thread.Thread.{Thread}
-use Rattle.rules.specs.Ground.{thread_at, Touch, raises, is_fine, Does, does, fails, Left, left}
+use Rattle.rules.specs.Ground.{thread_at, Touch, raises, is_fine, Ending, Does, does, fails, Left, left}
 
 abbrev pub new : State
 new = record { is_reading = 0; is_writing = false; read_access = zero_clock; write_access = zero_clock }

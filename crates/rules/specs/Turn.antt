@@ -198,7 +198,7 @@ ops_left table w t = drop (thread_in w t).position (ops_of table t.0)
 unfoldable pub begin : Table → World → ThreadId → Decided
 begin table w t = elim (is_runnable (thread_in w t).state) [ true ↦ turn_of (thread_in w t).phase t (ops_left table w t) w | false ↦ refused w ]
 
--- "Some 1, did_spur is set, the wait is done, the thread stands runnable with no stored unpark and the turn ends; notified is untouched."
+-- "On 1, did_spur is set, the wait is done, the thread stands runnable with no stored unpark and the turn ends; notified is untouched."
 unfoldable pub spurious : ThreadId → Op → World → World
 spurious t op w =
     let e = entry_in w op.object in
