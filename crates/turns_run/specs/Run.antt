@@ -1,6 +1,6 @@
 -- A list of decisions, run step by step: who acts, what that means for the turn of document 01, and what is left of the list's judgement.
-use Rattle.std.specs.Prelude.{◌≡◌, Bool, List, ℕ, ◌+◌, ◌-◌, ◌*◌, ◌≤◌, ltb, length, get_or, drop, None, Option, Some, Result, Ok, Err}
-use Rattle.clocks.specs.Clock.{risen}
+use Rattle.std.specs.Prelude.{◌≡◌, Bool, List, ℕ, ◌+◌, ◌-◌, ◌*◌, ◌≤◌, ltb, length, get_or, drop, replicate, None, Option, Some, Result, Ok, Err}
+use Rattle.clocks.specs.Clock.{max_threads, risen}
 use Rattle.lists.specs.Rules.{Outcome}
 use Rattle.lists.specs.Rules as outcome
 use Rattle.lists.specs.Judge.{Judged, not_allowed, surplus, unfinished, verdict, judge_end, judge}
@@ -10,10 +10,10 @@ use Rattle.rules.specs.declared.table.Op.{Op}
 use Rattle.rules.specs.declared.table.Table.{Table}
 use Rattle.rules.specs.declared.world.World.{World}
 use Rattle.rules.specs.declared.world.Decided.{Decided}
-use Rattle.rules.specs.Limits.{op_places}
-use Rattle.rules.specs.Ground.{flag}
+use Rattle.rules.specs.Limits.{max_objects, op_places}
+use Rattle.rules.specs.Ground.{absent, flag}
 use Rattle.rules.specs.Effect.{wait_of}
-use Rattle.rules.specs.Object.{put_entry}
+use Rattle.rules.specs.Object.{put_entry, new_entry, no_object}
 use Rattle.rules.specs.Table.{no_op, ops_of}
 use Rattle.rules.specs.Turn.{thread_in, entry_in, wants, done, after_turn, leak_check, settled, wait, go_on, turn_of, question, ops_left}
 use Rattle.rules.specs.Judge.{Verdict, outcome_of, step}
@@ -121,6 +121,10 @@ weight (InEffect m op n) = effect_weight m
 weight Over = 2
 weight AllEnded = 1
 weight (Done a) = 0
+
+-- a world in which nothing is
+unfoldable pub nowhere : World
+nowhere = record { threads = replicate max_threads absent; objects = replicate max_objects (new_entry no_object); turn = 0; asked = None }
 
 -- a judgement as the code hands it back
 abbrev pub ran_of : Judged World Verdict → Result Ran Refusal

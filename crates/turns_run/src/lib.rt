@@ -13,7 +13,7 @@ ghost use Rattle.turns_steps.specs.declared.Acting.TheVariants.{Moves};
 ghost use Rattle.turns_steps.specs.Loud.{takes_effect, outcome_of, recorded_in, next_in};
 ghost use Rattle.turns_steps.specs.Quiet.{who};
 ghost use Rattle.turns_steps.specs.Step.{chosen};
-ghost use Rattle.turns_run.specs.Run.{followed, ran_of, answer_of, Placed};
+ghost use Rattle.turns_run.specs.Run.{followed, nowhere, ran_of, answer_of, Placed};
 ghost use Rattle.turns_run.specs.Steps.{next_op, quiet_of, rested, effect_of, affected, InStore, Follows};
 
 use clocks::{THREADS, ThreadId};
@@ -45,6 +45,19 @@ pub enum Refusal {
 pub struct Ran {
     pub verdict: Option<Answer>,
     pub world: World,
+}
+
+// A world in which nothing is, for who keeps a world and has a list refused.
+#[tactic(auto, unfolding(crate::specs::Run::nowhere))]
+pub fn nowhere() -> World
+    ensures { result ≡ nowhere }
+{
+    World {
+        threads: [absent(); THREADS],
+        objects: [no_object(); OBJECTS],
+        turn: 0,
+        asked: None,
+    }
 }
 
 fn thread(threads: &[Thread; THREADS], t: ThreadId) -> Thread

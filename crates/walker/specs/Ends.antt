@@ -30,8 +30,8 @@ use Rattle.rules.specs.Turn.{is_allowed}
 use Rattle.lists.specs.Greedy.{seek}
 use Rattle.walk.specs.Decided.{least_is}
 use Rattle.walker.specs.declared.Path.{Path}
-use Rattle.walker.specs.Walking.{least_from, ran_by, with, told, completed}
-use Rattle.walker.specs.Steps.{first_on, first_over}
+use Rattle.walker.specs.Walking.{least_from, ran_by, with, completed}
+use Rattle.walker.specs.Steps.{taken_there, first_on, first_over}
 use Rattle.walker.specs.Way.{laters}
 
 -- the larger decisions as a run has them: none for what is no decision
@@ -82,7 +82,7 @@ module _ (table : Table) (n : Within table) where
   -- the run with one decision more
   module _ (w : World) (p : Path) (d : ℕ) (x : Option Answer) (room : p.at < max_list) (long : length p.list ≡ max_list) (long_later : length p.later ≡ max_list) where
     abbrev q : Path
-    q = told (with p p.at d (least_from w (d + 1))) x
+    q = with p p.at d (least_from w (d + 1)) x
 
     longer : take q.at q.list ≡ take p.at p.list ++ d ∷ []
     longer = rw add-one (take-suc-set p.list p.at d (omega (arith, room, long)))
@@ -141,7 +141,7 @@ module _ (table : Table) (n : Within table) where
       room = omega (arith, few, left_some table n w g)
 
       longer_by : Option Answer → Path
-      longer_by x = told (with p p.at d (least_from w (d + 1))) x
+      longer_by x = with p p.at d (least_from w (d + 1)) x
 
       go : (o : Outcome World Verdict) → step table w d ≡ o
           → ((v : World) (s : Path) (low : ℕ) → Good table v → left table v ≤ k → s.at + left table v ≤ max_list → length s.list ≡ max_list → length s.later ≡ max_list
@@ -150,12 +150,12 @@ module _ (table : Table) (n : Within table) where
       go refused e ih = absurd (false≢true (sym (ap allowedb e) ∙ a))
       go (done v) e ih =
           let r : Ran = record { verdict = Some v.answer; world = v.world } in
-          let made : longer_by (Some v.answer) ≡ completed table (suc k) w p low = sym (first_over table w p low k d is-d r (one_done table w d v e) refl) in
+          let made : longer_by (Some v.answer) ≡ completed table (suc k) w p low = sym (first_over table w p low d (Ok r) (taken_there table w p low d is-d) (one_done table w d v e) k refl) in
           subst (λ (l : List ℕ). Ends table w p l (completed table (suc k) w p low)) (raised-done w d v e) (subst (Ends table w p (d ∷ [])) made (ends_done w p d (Some v.answer) room long long_later v e refl))
       go (wants v) e ih =
           let r : Ran = record { verdict = None; world = v } in
           let q : Path = longer_by None in
-          let made : completed table k v q 0 ≡ completed table (suc k) w p low = sym (first_on table w p low k d is-d r (one_wants table w d v e) refl) in
+          let made : completed table k v q 0 ≡ completed table (suc k) w p low = sym (first_on table w p low d (Ok r) (taken_there table w p low d is-d) (one_wants table w d v e) k refl) in
           let less = falls table n w d v g e in
           let good = keeps table n w d v g e in
           let first : ℕ = smallest (step table) decisions v in

@@ -3,7 +3,7 @@
 --     begun_stands    it begins at the smallest
 --     Follows, advanced_follows   from l it advances to the next list, or to none where there is none
 --     walker_walks    what is met from the first run on is the walk of `first` and `next`
-use Rattle.std.specs.Prelude.{◌≡◌, true, false, T, Some, None, Ok, map, ltb, leb, length, drop, get_or, Option}
+use Rattle.std.specs.Prelude.{◌≡◌, true, false, T, Some, None, Ok, ltb, leb, length, drop, get_or, Option}
 use Rattle.std.specs.Option.{is_some, option_map, option_and_then}
 use Rattle.std.proofs.lemmas.Bool.{false≢true}
 use Rattle.std.proofs.Math.Path.{refl, sym, ap, subst}
@@ -35,6 +35,7 @@ use Rattle.rules.specs.Turn.{is_allowed, start}
 use Rattle.rules.specs.Judge.{Verdict, step}
 use Rattle.rules.specs.Walk.{decisions, left}
 use Rattle.rules.specs.declared.answer.Answer.{Answer}
+use Rattle.rules.specs.declared.answer.Answer.TheVariants.{NotAllowed, Surplus}
 use Rattle.turns_steps.specs.Step.{below, below_there}
 use Rattle.turns_run.specs.Run.{ran_of}
 use Rattle.theorems.proofs.Allowed.{allowed_is}
@@ -92,10 +93,10 @@ module _ (table : Table) (l : List ℕ) where
         let lands = moved_lands b (p - near) u.0 (omega (arith, far)) f.0 u.1 in
         subst (λ (x : Kept). On (take x.from l) x.world × (x.from ≤ p)) (sym lands ∙ nearer_far table l k p b refl far) (u.1, omega arith))
 
--- the verdict of a list, if it has one
+-- how the judge sees a list end: its verdict or its refusal, and none where another decision is wanted
 abbrev pub verdict_of : Judged World Verdict → Option Answer
-verdict_of (not_allowed i) = None
-verdict_of (surplus i) = None
+verdict_of (not_allowed i) = Some (NotAllowed i)
+verdict_of (surplus i) = Some (Surplus i)
 verdict_of (unfinished v) = None
 verdict_of (verdict v) = Some v.answer
 
@@ -142,7 +143,7 @@ module _ (table : Table) (s : Started table) where
       let d : ℕ = smallest (step table) decisions (start table) in
       let y : Ends table (start table) empty first (completed table max_list (start table) empty 0) =
       subst (λ (l : List ℕ). Ends table (start table) empty l (completed table max_list (start table) empty 0)) (raised-smallest (step table) decisions (left table) (start table))
-      (completed_ends table n max_list (start table) empty 0 good few (omega (arith, few)) (length-replicate {A = ℕ} max_list 0) (length-replicate {A = Option ℕ} max_list None) d (least_smallest table n (start table) good) (some_smallest table n (start table) good)) in
+      (completed_ends table n max_list (start table) empty 0 good few (omega (arith, few)) (length-replicate {A = ℕ} max_list 0) (length-replicate {A = Option ℕ} max_list (Some 0)) d (least_smallest table n (start table) good) (some_smallest table n (start table) good)) in
       record {
         of = refl;
         list = y.list;
@@ -243,7 +244,7 @@ module _ (table : Table) (s : Started table) where
       here = ap (λ (k : Kept). k.world) (moved_lands table L kept p v lands.1 lands.0 (subst (λ (m : List ℕ). Reaches (step table) (start table) m v) (sym (front p (omega (arith, inside)))) to-v))
 
       abbrev stem : Path
-      stem = record { list = L; later = w.path.later; at = p; verdict = None }
+      stem = record { list = L; later = w.path.later; at = p; verdict = w.path.verdict }
 
       abbrev then : Path
       then = completed table (max_list - p) (moved table L kept p).world stem e

@@ -1,5 +1,5 @@
 -- The walk's definitions in the shape that the code asks for.
-use Rattle.std.specs.Prelude.{◌≡◌, refl, Bool, true, false, Option, Some, None, Result, Ok, Err, List, leb, ltb, take, drop, get_or}
+use Rattle.std.specs.Prelude.{◌≡◌, refl, Bool, true, false, Option, Some, None, Result, List, leb, ltb, take, drop, get_or, max, unwrap_or}
 use Rattle.std.specs.Option.{is_some, option_map, option_and_then}
 use Rattle.std.proofs.Common.{sym, ◌∙◌, subst, arith, ltb-false, lt-ltb, le-ltb, le-leb}
 use Rattle.std.proofs.Math.Path.{ap}
@@ -19,11 +19,10 @@ use Rattle.rules.specs.Walk.{decisions}
 use Rattle.turns_run.specs.declared.Ran.{Ran}
 use Rattle.turns_run.specs.declared.Refusal.{Refusal}
 use Rattle.turns_run.specs.Run.{ran_of}
-use Rattle.walk.specs.Decided.{below_some}
 use Rattle.walker.specs.declared.Path.{Path}
 use Rattle.walker.specs.declared.Kept.{Kept}
 use Rattle.walker.specs.declared.Walker.{Walker}
-use Rattle.walker.specs.Walking.{least_from, ran_by, with, told, or_on, ran_on, chosen_on, completed, last_below, moved_by, moved, at_start, near, not_behind, nearer, empty, begun, raised_at, advanced}
+use Rattle.walker.specs.Walking.{least_from, taken_from, ran_by, end_by, world_by, with, or_on, completed, last_below, moved, at_start, near, not_behind, nearer, empty, begun, raised_at, advanced}
 
 or_over : (x : Option Answer) (a b : Path) → is_some x ≡ true → or_on x a b ≡ a
 or_over None a b h = absurd (false≢true h)
@@ -34,63 +33,49 @@ or_goes None a b h = refl
 or_goes (Some v) a b h = absurd (false≢true (sym h))
 
 module _ (table : Table) (w : World) (p : Path) (low : ℕ) where
-  -- the first decision of a completion, where there is one
-  module _ (n : ℕ) where
-    abbrev one : Option ℕ → Path
-    one o = chosen_on o p (λ d. ran_on (ran_by table w d) (with p p.at d (least_from w (d + 1))) (λ v q. completed table n v q 0))
+  pub taken_there : (d : ℕ) → least_from w low ≡ Some d → d ≡ taken_from w low
+  taken_there d e = ap (λ (o : Option ℕ). unwrap_or o (max low decisions)) (sym e)
 
-    pub first_none : least_from w low ≡ None → completed table (suc n) w p low ≡ p
+  pub complete_full : (i : ℕ) → max_list ≤ i → completed table (max_list - i) w p low ≡ p
+  unfolding completed
+  complete_full i h = let e : max_list - i ≡ zero = omega (arith, h) in rw e
+
+  module _ (d : ℕ) (o : Result Ran Refusal) (is-d : d ≡ taken_from w low) (is-o : ran_by table w d ≡ o) where
+    abbrev one : ℕ → ℕ → Result Ran Refusal → Path
+    one n x r =
+        let q = with p p.at x (least_from w (x + 1)) (end_by r) in
+        or_on (end_by r) q (completed table n (world_by r) q 0)
+
+    -- the first decision of a completion
+    first : (n : ℕ) → completed table (suc n) w p low ≡ one n d o
     unfolding completed
-    first_none e = ap one e
+    first n = ap (λ (x : ℕ). one n x (ran_by table w x)) (sym is-d) ∙ ap (one n d) is-o
 
-    module _ (d : ℕ) (e : least_from w low ≡ Some d) where
-      abbrev q : Path
-      q = with p p.at d (least_from w (d + 1))
+    abbrev q : Path
+    q = with p p.at d (least_from w (d + 1)) (end_by o)
 
-      abbrev then : Result Ran Refusal → Path
-      then o = ran_on o q (λ v s. completed table n v s 0)
+    pub first_over : (n : ℕ) → is_some (end_by o) ≡ true → completed table (suc n) w p low ≡ q
+    first_over n h = first n ∙ or_over (end_by o) _ _ h
 
-      first : (o : Result Ran Refusal) → ran_by table w d ≡ o → completed table (suc n) w p low ≡ then o
-      unfolding completed
-      first o f = ap one e ∙ ap then f
+    pub first_on : (n : ℕ) → is_some (end_by o) ≡ false → completed table (suc n) w p low ≡ completed table n (world_by o) q 0
+    first_on n h = first n ∙ or_goes (end_by o) _ _ h
 
-      pub first_refused : (r : Refusal) → ran_by table w d ≡ Err r → completed table (suc n) w p low ≡ q
-      first_refused r f = first (Err r) f
-
-      pub first_over : (r : Ran) → ran_by table w d ≡ Ok r → is_some r.verdict ≡ true → completed table (suc n) w p low ≡ told q r.verdict
-      first_over r f h = first (Ok r) f ∙ or_over r.verdict _ _ h
-
-      pub first_on : (r : Ran) → ran_by table w d ≡ Ok r → is_some r.verdict ≡ false → completed table (suc n) w p low ≡ completed table n r.world (told q r.verdict) 0
-      first_on r f h = first (Ok r) f ∙ or_goes r.verdict _ _ h
-
-  -- as the loop has it, at its place
-  module _ (i : ℕ) where
-    pub complete_full : max_list ≤ i → completed table (max_list - i) w p low ≡ p
-    unfolding completed
-    complete_full h = let e : max_list - i ≡ zero = omega (arith, h) in rw e
-
-    module _ (at : p.at ≡ i) (h : i < max_list) where
+    -- as the loop has it, at its place
+    module _ (i : ℕ) (e : Option ℕ) (at : p.at ≡ i) (h : i < max_list) (is-e : e ≡ least_from w (d + 1)) where
       room : max_list - i ≡ suc (max_list - (i + 1))
       room = omega (arith, h)
 
       abbrev rest : ℕ → Path
       rest k = completed table k w p low
 
-      pub complete_none : least_from w low ≡ None → completed table (max_list - i) w p low ≡ p
-      complete_none e = ap rest room ∙ first_none (max_list - (i + 1)) e
+      here : q ≡ with p i d e (end_by o)
+      here = λ j. with p (at j) d (sym is-e j) (end_by o)
 
-      module _ (d : ℕ) (e : Option ℕ) (is-d : least_from w low ≡ Some d) (is-e : e ≡ least_from w (d + 1)) where
-        here : with p p.at d (least_from w (d + 1)) ≡ with p i d e
-        here = λ j. with p (at j) d (sym is-e j)
+      pub complete_over : is_some (end_by o) ≡ true → completed table (max_list - i) w p low ≡ with p i d e (end_by o)
+      complete_over t = ap rest room ∙ first_over (max_list - (i + 1)) t ∙ here
 
-        pub complete_refused : (r : Refusal) → ran_by table w d ≡ Err r → completed table (max_list - i) w p low ≡ with p i d e
-        complete_refused r f = ap rest room ∙ first_refused (max_list - (i + 1)) d is-d r f ∙ here
-
-        pub complete_over : (r : Ran) → ran_by table w d ≡ Ok r → is_some r.verdict ≡ true → completed table (max_list - i) w p low ≡ told (with p i d e) r.verdict
-        complete_over r f t = ap rest room ∙ first_over (max_list - (i + 1)) d is-d r f t ∙ ap (λ (q : Path). told q r.verdict) here
-
-        pub complete_on : (r : Ran) → ran_by table w d ≡ Ok r → is_some r.verdict ≡ false → completed table (max_list - i) w p low ≡ completed table (max_list - (i + 1)) r.world (told (with p i d e) r.verdict) 0
-        complete_on r f t = ap rest room ∙ first_on (max_list - (i + 1)) d is-d r f t ∙ ap (λ (q : Path). completed table (max_list - (i + 1)) r.world (told q r.verdict) 0) here
+      pub complete_on : is_some (end_by o) ≡ false → completed table (max_list - i) w p low ≡ completed table (max_list - (i + 1)) (world_by o) (with p i d e (end_by o)) 0
+      complete_on t = ap rest room ∙ first_on (max_list - (i + 1)) t ∙ ap (λ (x : Path). completed table (max_list - (i + 1)) (world_by o) x 0) here
 
 -- the last of the first n places that has a decision
 abbrev pub Last : List (Option ℕ) → ℕ → Option ℕ → Type 0
@@ -146,11 +131,11 @@ module _ (table : Table) (l : List ℕ) (k : Kept) where
   unfolding moved
   moved_not to h = rw (le-leb to k.from h)
 
-  pub moved_on : (to : ℕ) → k.from < to → (o : Result Ran Refusal) → ran_of (judge (step table) 0 k.world (take (to - k.from) (drop k.from l))) ≡ o → moved_by o k to ≡ moved table l k to
+  pub moved_on : (to : ℕ) → k.from < to → (o : Result Ran Refusal) → ran_of (judge (step table) 0 k.world (take (to - k.from) (drop k.from l))) ≡ o → record { world = world_by o; from = to } ≡ moved table l k to
   unfolding moved
   moved_on to h o e =
-      ap (λ (x : Result Ran Refusal). moved_by x k to) (sym e)
-      ∙ ap (λ (y : Bool). cond y k (moved_by (ran_of (judge (step table) 0 k.world (take (to - k.from) (drop k.from l)))) k to)) (sym (lt-leb to k.from h))
+      ap (λ (x : Result Ran Refusal). record { world = world_by x; from = to }) (sym e)
+      ∙ ap (λ (y : Bool). cond y k (record { world = world_by (ran_of (judge (step table) 0 k.world (take (to - k.from) (drop k.from l)))); from = to })) (sym (lt-leb to k.from h))
 
   module _ (p : ℕ) where
     pub behind : p < k.from → at_start table ≡ not_behind table k p
@@ -200,11 +185,11 @@ module _ (w : Walker) where
     advanced-none e = sym (ap from_last at ∙ ap raised e)
 
     pub advanced_on : (d : ℕ) → get_or w.path.later p None ≡ Some d → (k h : Kept) (q : Path) → k ≡ nearer w.table w.path.list w.kept p → h ≡ moved w.table w.path.list k p
-        → q ≡ completed w.table (max_list - p) h.world (record { list = w.path.list; later = w.path.later; at = p; verdict = None }) d
+        → q ≡ completed w.table (max_list - p) h.world (record { list = w.path.list; later = w.path.later; at = p; verdict = w.path.verdict }) d
         → Some (record { table = w.table; path = q; kept = k }) ≡ advanced w
     unfolding advanced raised_at
     advanced_on d e k h q is-k is-h is-q =
-        let stem : Path = record { list = w.path.list; later = w.path.later; at = p; verdict = None } in
+        let stem : Path = record { list = w.path.list; later = w.path.later; at = p; verdict = w.path.verdict } in
         let there : h ≡ moved w.table w.path.list (nearer w.table w.path.list w.kept p) p = is-h ∙ ap (λ (x : Kept). moved w.table w.path.list x p) is-k in
         (λ j. Some (record { table = w.table; path = (is-q ∙ ap (λ (x : Kept). completed w.table (max_list - p) x.world stem d) there) j; kept = is-k j }))
         ∙ sym (ap from_last at ∙ ap raised e)

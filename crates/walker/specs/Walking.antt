@@ -1,5 +1,5 @@
 -- The walk as the code does it: a run completed, the kept world moved on, the next run.
-use Rattle.std.specs.Prelude.{cond, Option, Some, None, Result, Ok, Err, List, [], ◌∷◌, ℕ, zero, suc, ◌+◌, ◌-◌, ◌*◌, min, leb, ltb, take, drop, get_or, set, replicate}
+use Rattle.std.specs.Prelude.{cond, Option, Some, None, Result, Ok, Err, List, [], ◌∷◌, ℕ, zero, suc, ◌+◌, ◌-◌, ◌*◌, min, max, leb, ltb, take, drop, get_or, set, replicate, unwrap_or}
 use Rattle.std.specs.Option.{is_some, option_map, option_and_then}
 use Rattle.lists.specs.Judge.{judge}
 use Rattle.lists.specs.Greedy.{seek}
@@ -13,7 +13,7 @@ use Rattle.rules.specs.Walk.{decisions}
 use Rattle.turns_steps.specs.Step.{below}
 use Rattle.turns_run.specs.declared.Ran.{Ran}
 use Rattle.turns_run.specs.declared.Refusal.{Refusal}
-use Rattle.turns_run.specs.Run.{ran_of}
+use Rattle.turns_run.specs.Run.{nowhere, ran_of, answer_of}
 use Rattle.walker.specs.declared.Path.{Path}
 use Rattle.walker.specs.declared.Kept.{Kept}
 use Rattle.walker.specs.declared.Walker.{Walker}
@@ -22,35 +22,41 @@ use Rattle.walker.specs.declared.Walker.{Walker}
 abbrev pub least_from : World → ℕ → Option ℕ
 least_from w k = below decisions (seek (is_allowed w.asked w.threads) (decisions - k) k)
 
+-- the decision that is taken: where none is allowed, a number that is no decision
+abbrev pub taken_from : World → ℕ → ℕ
+taken_from w k = unwrap_or (least_from w k) (max k decisions)
+
 -- a run of one decision
 abbrev pub ran_by : Table → World → ℕ → Result Ran Refusal
 ran_by table w d = ran_of (judge (step table) 0 w (d ∷ []))
 
--- what is added to a run by the decision d at its place i
-abbrev pub with : Path → ℕ → ℕ → Option ℕ → Path
-with p i d e = record { list = set p.list i d; later = set p.later i e; at = i + 1; verdict = p.verdict }
+-- how a list ended: its verdict or its refusal, and none where another decision is wanted
+abbrev pub end_by : Result Ran Refusal → Option Answer
+end_by (Err r) = Some (answer_of r)
+end_by (Ok r) = r.verdict
 
-abbrev pub told : Path → Option Answer → Path
-told p v = record { list = p.list; later = p.later; at = p.at; verdict = v }
+-- the world that it came to; a refusal leaves none
+abbrev pub world_by : Result Ran Refusal → World
+world_by (Err r) = nowhere
+world_by (Ok r) = r.world
+
+-- what is added to a run by the decision d at its place i, which ends it so
+abbrev pub with : Path → ℕ → ℕ → Option ℕ → Option Answer → Path
+with p i d e x = record { list = set p.list i d; later = set p.later i e; at = i + 1; verdict = x }
 
 -- a run goes on where another decision is wanted
 abbrev pub or_on : Option Answer → Path → Path → Path
 or_on None over on = on
 or_on (Some a) over on = over
 
-abbrev pub ran_on : Result Ran Refusal → Path → (World → Path → Path) → Path
-ran_on (Err r) q k = q
-ran_on (Ok r) q k = or_on r.verdict (told q r.verdict) (k r.world (told q r.verdict))
-
-abbrev pub chosen_on : Option ℕ → Path → (ℕ → Path) → Path
-chosen_on None p k = p
-chosen_on (Some d) p k = k d
-
 -- the smallest allowed decision that is `low` or more, and then the smallest ones, n of them at most, until the run ends
 unfoldable pub completed : Table → ℕ → World → Path → ℕ → Path
 completed table zero w p low = p
 completed table (suc n) w p low =
-    chosen_on (least_from w low) p (λ d. ran_on (ran_by table w d) (with p p.at d (least_from w (d + 1))) (λ v q. completed table n v q 0))
+    let d = taken_from w low in
+    let r = ran_by table w d in
+    let q = with p p.at d (least_from w (d + 1)) (end_by r) in
+    or_on (end_by r) q (completed table n (world_by r) q 0)
 
 -- the last of the first n places that has a decision
 unfoldable pub last_below : List (Option ℕ) → ℕ → Option ℕ
@@ -58,12 +64,9 @@ last_below l zero = None
 last_below l (suc n) = cond (is_some (get_or l n None)) (Some n) (last_below l n)
 
 -- the kept world, moved on to the place `to`
-abbrev pub moved_by : Result Ran Refusal → Kept → ℕ → Kept
-moved_by (Err r) k to = k
-moved_by (Ok r) k to = record { world = r.world; from = to }
-
 unfoldable pub moved : Table → List ℕ → Kept → ℕ → Kept
-moved table l k to = cond (leb to k.from) k (moved_by (ran_of (judge (step table) 0 k.world (take (to - k.from) (drop k.from l)))) k to)
+moved table l k to =
+    cond (leb to k.from) k (record { world = world_by (ran_of (judge (step table) 0 k.world (take (to - k.from) (drop k.from l)))); from = to })
 
 unfoldable pub at_start : Table → Kept
 at_start table = record { world = start table; from = 0 }
@@ -80,8 +83,9 @@ nearer table l k p =
     let base = not_behind table k p in
     cond (leb (p - base.from) (2 * near)) base (moved table l base (p - near))
 
+-- before any decision; what stands past `at` says nothing
 abbrev pub empty : Path
-empty = record { list = replicate max_list 0; later = replicate max_list None; at = 0; verdict = None }
+empty = record { list = replicate max_list 0; later = replicate max_list (Some 0); at = 0; verdict = None }
 
 unfoldable pub begun : Table → Walker
 begun table = record { table = table; path = completed table max_list (start table) empty 0; kept = at_start table }
@@ -91,7 +95,7 @@ unfoldable pub raised_at : Table → Walker → ℕ → ℕ → Walker
 raised_at table w p d =
     let l = w.path.list in
     let kept = nearer table l w.kept p in
-    let stem : Path = record { list = l; later = w.path.later; at = p; verdict = None } in
+    let stem : Path = record { list = l; later = w.path.later; at = p; verdict = w.path.verdict } in
     record { table = table; path = completed table (max_list - p) (moved table l kept p).world stem d; kept = kept }
 
 unfoldable pub advanced : Walker → Option Walker

@@ -3,19 +3,21 @@
 
 ghost use Rattle.std.specs.Prelude.{◌≡◌, ◌-◌, ◌≤◌, length};
 ghost use Rattle.rules.specs.Limits.{max_list};
+ghost use Rattle.turns_run.specs.Run.{nowhere};
 ghost use Rattle.walker.specs.Walking.{completed, last_below, moved, at_start, nearer, begun, advanced};
 
+use clocks::THREADS;
 use rules::answer::Answer;
 use rules::table::{LIST, Table};
 use rules::world::World;
 use turns::start;
-use turns_run::run;
+use turns_run::{nowhere, run};
 use turns_steps::least;
 
 // A kept world stands this far before the place of a change, and is moved on where it stands more than twice as far.
 const NEAR: usize = 3;
 
-// A run: the first `at` bytes of its list, at each place the smallest larger decision that is allowed, and its verdict.
+// A run: the first `at` bytes of its list, at each place the smallest larger decision that is allowed, and its verdict or its refusal.
 #[derive(Clone, Copy)]
 pub struct Path {
     pub list: [u8; LIST],
@@ -39,26 +41,27 @@ pub struct Walker {
     pub kept: Kept,
 }
 
-// The smallest allowed decision that is `low` or more, and then the smallest ones, until the run ends.
+// The smallest allowed decision that is `low` or more, and then the smallest ones, until the run ends. Where none is allowed, a number that is no decision is taken, and the run is refused.
 fn complete(table: Table, mut world: World, mut path: Path, low: u8) -> Path
     ensures { result ≡ completed table (max_list - path.at) world path low }
 {
-    let mut from = low as usize;
+    let mut from = low;
     for at in path.at..LIST {
-        let Some(d) = least(world.asked, world.threads, from) else {
-            return path;
-        };
+        let sought = least(world.asked, world.threads, usize::from(from));
+        let d = sought.unwrap_or(from.max(THREADS as u8));
         path.list[at] = d;
-        path.later[at] = least(world.asked, world.threads, d as usize + 1);
+        path.later[at] = least(world.asked, world.threads, usize::from(d) + 1);
         path.at = at + 1;
-        let Ok(ran) = run(table, world, &[d]) else {
-            return path;
-        };
-        path.verdict = ran.verdict;
-        if ran.verdict.is_some() {
+        match run(table, world, &[d]) {
+            Ok(ran) => {
+                path.verdict = ran.verdict;
+                world = ran.world;
+            }
+            Err(refusal) => path.verdict = Some(refusal.into()),
+        }
+        if path.verdict.is_some() {
             return path;
         }
-        world = ran.world;
         from = 0;
     }
     path
@@ -72,7 +75,17 @@ fn last_below(later: &[Option<u8>], n: usize) -> Option<usize>
     later[..n].iter().rposition(|e| e.is_some())
 }
 
-// The kept world, moved on to the place `to`.
+// What is kept where the way on is refused: no world is left.
+fn nothing_kept(from: usize) -> Kept
+    ensures { result ≡ record { world = nowhere; from = from } }
+{
+    Kept {
+        world: nowhere(),
+        from,
+    }
+}
+
+// The kept world, moved on to the place `to`; a refusal leaves no world.
 fn moved(table: Table, list: &[u8], kept: Kept, to: usize) -> Kept
     requires { to ≤ length list.now }
     ensures { result ≡ moved table list.now kept to }
@@ -85,7 +98,7 @@ fn moved(table: Table, list: &[u8], kept: Kept, to: usize) -> Kept
             world: ran.world,
             from: to,
         },
-        Err(_) => kept,
+        Err(_) => nothing_kept(to),
     }
 }
 
@@ -115,9 +128,10 @@ pub fn begin(table: Table) -> Walker
     ensures { result ≡ begun table }
 {
     let kept = at_start(table);
+    // What stands past `at` says nothing.
     let none = Path {
         list: [0; LIST],
-        later: [None; LIST],
+        later: [Some(0); LIST],
         at: 0,
         verdict: None,
     };
@@ -138,11 +152,7 @@ pub fn advance(w: Walker) -> Option<Walker>
     let d = path.later[p]?;
     let kept = nearer(table, &path.list, w.kept, p);
     let here = moved(table, &path.list, kept, p);
-    let stem = Path {
-        at: p,
-        verdict: None,
-        ..path
-    };
+    let stem = Path { at: p, ..path };
     Some(Walker {
         table,
         path: complete(table, here.world, stem, d),

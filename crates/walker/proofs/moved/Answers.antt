@@ -1,4 +1,4 @@
-use Rattle.std.proofs.Common.{sym, ◌∙◌}
+use Rattle.std.proofs.Common.{sym, ◌∙◌, rules}
 use Rattle.walker.specs.Steps.{moved_not, moved_on}
 use Rattle.walker.proofs.moved.Goals as goal
 
@@ -9,4 +9,7 @@ pub returns-in-Ok : goal.returns-in-Ok
 returns-in-Ok c = let a = c.args in moved_on a.table a.list.now a.kept a.to c.if-to-kept.false _ (sym c.run.ensures ∙ c.in-Ok.is)
 
 pub returns-in-Err : goal.returns-in-Err
-returns-in-Err c = let a = c.args in moved_on a.table a.list.now a.kept a.to c.if-to-kept.false _ (sym c.run.ensures ∙ c.in-Err.is)
+returns-in-Err c =
+    let a = c.args in
+    let e = moved_on a.table a.list.now a.kept a.to c.if-to-kept.false _ (sym c.run.ensures ∙ c.in-Err.is) in
+    search rules
