@@ -54,7 +54,7 @@ going (suc n) (Some w) = ap (λ (l : List ℕ). end_line w.path.verdict (take w.
 
 -- the digit of a run's end is that of its verdict
 digit : (j : Judged World Verdict) → Told j → number_digit (verdict_number (verdict_of j)) ≡ verdict_digit j
-unfolding verdict_digit
+unfolding verdict_digit numbers_of
 digit (not_allowed i) t = refl
 digit (surplus i) t = refl
 digit (unfinished w) t = refl

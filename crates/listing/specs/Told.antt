@@ -8,7 +8,7 @@ use Rattle.walker.specs.declared.Walker.{Walker}
 use Rattle.walker.specs.Walking.{advanced}
 use Rattle.listing.specs.Line.{number_digit}
 
--- the number of a run's verdict, if it has one
+-- the number of a run's verdict, or of its refusal, if it has ended
 abbrev pub verdict_number : Option Answer → Option ℕ
 verdict_number None = None
 verdict_number (Some a) = Some (numbers_of a).number

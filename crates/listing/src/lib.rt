@@ -3,18 +3,16 @@
 
 mod line;
 
-ghost use Rattle.std.specs.Prelude.{◌≡◌, ◌≤◌, ◌+◌, ◌-◌, ◌^◌, IfOk, IfSome, OnOk, take};
-ghost use Rattle.std.specs.Io.KnownBytes.{Appends};
-ghost use Rattle.arrayvec.specs.ArrayVec.{array_vec_len};
+ghost use Rattle.std.specs.Prelude.{◌≡◌, ◌≤◌, ◌<◌, ◌+◌, ◌-◌, ◌*◌, ◌^◌, ◌++◌, IfOk, IfSome, OnOk, min, length, take};
+ghost use Rattle.std.specs.Io.KnownBytes.{Appends, Consumes, IsAtEnd};
 ghost use Rattle.rules.specs.Answer.{numbers_of};
 ghost use Rattle.rules.specs.Walk.{runs_of};
 ghost use Rattle.walker.specs.Walking.{begun};
-ghost use Rattle.listing.specs.Told.{lines, Moves, refusal};
+ghost use Rattle.listing.specs.Told.{verdict_number, end_line, lines, Moves, refusal};
 
-use arrayvec::ArrayVec;
-use line::{LINE, add_line};
+use line::put_line;
 use rules::answer::{Answer, Numbers};
-use rules::table::Table;
+use rules::table::{LIST, Table};
 use std::io;
 use std::io::{Read, Write};
 use turns_answer::numbers;
@@ -25,18 +23,39 @@ use walker::{advance, begin};
 const TABLE: usize = 2048;
 // Lines wait here, so that many are written at once.
 const OUT: usize = 65536;
+// More than the longest line.
+const LINE: usize = 2048;
+
+// Reads until the slice is full or the input ends, and hands back how many bytes came.
+fn fill<R: Read>(from: &mut R, table: &mut [u8]) -> io::Result<usize>
+    ensures bound { IfOk result (λ n. n ≤ length table.new) }
+    ensures bytes { IfOk result (λ n. Consumes (R.remaining from.old) (R.remaining from.new) (take n table.new)) }
+    ensures end { IfOk result (λ n. n < length table.new → IsAtEnd (R.remaining from.new)) }
+{
+    let mut done = 0;
+    for _ in 0..u64::MAX {
+        if table.len() <= done {
+            break;
+        }
+        let n = from.read(&mut table[done..])?;
+        if n == 0 {
+            break;
+        }
+        done += n;
+    }
+    Ok(done)
+}
 
 // The front part of the input; the rest is read and changes nothing, since a longer table is refused within the front part.
-fn read_input<R: Read>(from: &mut R) -> io::Result<ArrayVec<u8, TABLE>>
-    ensures { IfOk result (λ front. IfSome (R.remaining from.old) (λ bs. front.items ≡ take TABLE bs)) }
+fn read_input<R: Read>(from: &mut R, table: &mut [u8]) -> io::Result<usize>
+    ensures bound { IfOk result (λ n. n ≤ 2048) }
+    ensures front { length table.old ≡ 2048 → IfOk result (λ n. IfSome (R.remaining from.old) (λ bs. take n table.new ≡ take 2048 bs)) }
 {
-    let mut front = ArrayVec::new();
-    let mut first = Read::take(&mut *from, TABLE as u64);
-    io::copy(&mut first, &mut front)?;
-    if front.is_full() {
+    let n = fill(from, table)?;
+    if n == table.len() {
         io::copy(from, &mut io::sink())?;
     }
-    Ok(front)
+    Ok(n.min(TABLE))
 }
 
 fn say_refused<W: Write>(to: &mut W, a: Answer) -> io::Result<()>
@@ -46,33 +65,59 @@ fn say_refused<W: Write>(to: &mut W, a: Answer) -> io::Result<()>
     writeln!(to, "refused {number} at {place}")
 }
 
-// What waits is written where there is no room for another line.
-fn make_room<W: Write>(waiting: &mut ArrayVec<u8, OUT>, to: &mut W) -> io::Result<()>
-    ensures room { OnOk result (array_vec_len waiting.new + LINE ≤ OUT) }
-    ensures moves { OnOk result (Moves (W.contents to.old) waiting.old.items (W.contents to.new) waiting.new.items) }
+// The number of a run's verdict, or of its refusal, if it has ended.
+fn verdict_number(verdict: Option<Answer>) -> Option<u8>
+    ensures { result ≡ verdict_number verdict }
 {
-    if waiting.remaining_capacity() < LINE {
-        to.write_all(waiting)?;
-        waiting.clear();
+    Some(numbers(verdict?).number)
+}
+
+// Writes what waits.
+fn flush<W: Write>(to: &mut W, out: &[u8], used: usize) -> io::Result<()>
+    ensures { OnOk result (Appends (W.contents to.old) (W.contents to.new) (take used out.now)) }
+{
+    to.write_all(&out[..used.min(out.len())])
+}
+
+// Where the next line may begin: what waits is written where there is no room for another line.
+fn make_room<W: Write>(to: &mut W, out: &[u8], used: usize) -> io::Result<usize>
+    ensures room { IfOk result (λ n. n ≤ 63488) }
+    ensures moves { IfOk result (λ n. Moves (W.contents to.old) (take used out.now) (W.contents to.new) (take n out.now)) }
+{
+    if used <= OUT - LINE {
+        return Ok(used);
     }
-    Ok(())
+    flush(to, out, used)?;
+    Ok(0)
+}
+
+// Adds the line of one run, and hands back how much waits then.
+fn add_line(verdict: Option<Answer>, list: &[u8], out: &mut [u8], used: usize) -> usize
+    requires { length list.now < 1000 }
+    ensures line { used + 3 * length list.now + 2 ≤ min 65536 (length out.old)
+        → take result out.new ≡ take used out.old ++ end_line verdict list.now }
+    ensures end { used ≤ 65536 → result ≡ used + 3 * length list.now + 2 }
+{
+    put_line(out, used.min(OUT), verdict_number(verdict), list)
 }
 
 // The runs of a table. Nothing says that they end, so they are counted, up to a number that no walk reaches.
 fn go_through<W: Write>(table: Table, to: &mut W) -> io::Result<()>
     ensures { OnOk result (Appends (W.contents to.old) (W.contents to.new) (lines (2 ^ 64 - 1) (Some (begun table)))) }
 {
-    let mut waiting = ArrayVec::<u8, OUT>::new();
+    let mut out = [0u8; OUT];
     let mut next = Some(begin(table));
+    let mut used = 0;
     for _ in 0..u64::MAX {
         let Some(w) = next else {
             break;
         };
-        make_room(&mut waiting, to)?;
-        add_line(&mut waiting, &w.path);
+        let at = make_room(to, &out, used)?;
+        let list = &w.path.list[..w.path.at.min(LIST)];
+        used = add_line(w.path.verdict, list, &mut out, at);
         next = advance(w);
     }
-    to.write_all(&waiting)
+    flush(to, &out, used)
 }
 
 // Reads a table, and writes a line for each run of it, or its refusal.
@@ -80,8 +125,9 @@ pub fn list_runs<R: Read, W: Write>(from: &mut R, to: &mut W) -> io::Result<()>
     ensures { OnOk result (IfSome (R.remaining from.old) (λ bs.
         Appends (W.contents to.old) (W.contents to.new) (runs_of (2 ^ 64 - 1) bs))) }
 {
-    let front = read_input(from)?;
-    match read_table(&front) {
+    let mut table = [0u8; TABLE];
+    let n = read_input(from, &mut table)?;
+    match read_table(&table[..n]) {
         Ok(table) => go_through(table, to),
         Err(refusal) => say_refused(to, refusal),
     }

@@ -1,35 +1,11 @@
 // One line: the verdict's number, then the decisions as two hexadecimal digits each.
-ghost use Rattle.std.specs.Prelude.{◌≡◌, ◌+◌, ◌<◌, ◌≤◌, ◌++◌, take};
-ghost use Rattle.arrayvec.specs.ArrayVec.{array_vec_len};
-ghost use Rattle.rules.specs.Walk.{hex_digit};
-ghost use Rattle.listing.specs.Line.{number_digit};
-ghost use Rattle.listing.specs.Told.{verdict_number, end_line};
+ghost use Rattle.std.specs.Prelude.{◌≡◌, ◌∷◌, ◌+◌, ◌*◌, ◌<◌, length};
+ghost use Rattle.std.proofs.lemmas.List.Edits.{sets};
+ghost use Rattle.rules.specs.Sheet.{each};
+ghost use Rattle.rules.specs.Walk.{hex_digit, decision_text};
+ghost use Rattle.listing.specs.Line.{decision_bytes, number_digit};
 
-use arrayvec::ArrayVec;
-use rules::answer::Answer;
-use rules::table::LIST;
-use turns_answer::numbers;
-use walker::Path;
-
-// More than the longest line.
-pub const LINE: usize = 2048;
-
-// The number of a run's verdict, if it has one.
-fn verdict_number(verdict: Option<Answer>) -> Option<u8>
-    ensures { result ≡ verdict_number verdict }
-{
-    Some(numbers(verdict?).number)
-}
-
-// A verdict's number has one digit.
-fn number_digit(number: Option<u8>) -> u8
-    ensures { result ≡ number_digit number }
-{
-    match number {
-        Some(n @ 0..=9) => b'0' + n,
-        _ => b'?',
-    }
-}
+use turns_shown::put;
 
 #[tactic(auto, unfolding(rules::specs::Walk::hex_digit))]
 fn hex_digit(n: u8) -> u8
@@ -42,16 +18,43 @@ fn hex_digit(n: u8) -> u8
     }
 }
 
-// The line of one run, after those that wait.
-pub fn add_line<const N: usize>(waiting: &mut ArrayVec<u8, N>, run: &Path)
-    requires { array_vec_len waiting.old + LINE ≤ N }
-    ensures { waiting.new.items ≡ waiting.old.items ++ end_line run.now.verdict (take run.now.at run.now.list) }
+fn put_decision(out: &mut [u8], at: usize, d: u8)
+    requires { at < 100000 }
+    ensures { out.new ≡ sets out.old at (decision_bytes d) }
 {
-    waiting.push(number_digit(verdict_number(run.verdict)));
-    for d in &run.list[..run.at.min(LIST)] {
-        waiting.push(b' ');
-        waiting.push(hex_digit(d / 16));
-        waiting.push(hex_digit(d % 16));
+    put(out, at, b' ');
+    put(out, at + 1, hex_digit(d / 16));
+    put(out, at + 2, hex_digit(d % 16));
+}
+
+fn put_decisions(out: &mut [u8], at: usize, list: &[u8])
+    requires { (at < 90000) × (length list.now < 1000) }
+    ensures { out.new ≡ sets out.old at (each decision_bytes list.now) }
+{
+    for (i, d) in list.iter().enumerate() {
+        put_decision(out, at + 3 * i, *d);
     }
-    waiting.push(b'\n');
+}
+
+// A verdict's number has one digit.
+fn number_digit(number: Option<u8>) -> u8
+    ensures { result ≡ number_digit number }
+{
+    match number {
+        Some(n @ 0..=9) => b'0' + n,
+        _ => b'?',
+    }
+}
+
+// The line stands at `at`; its end is handed back.
+pub fn put_line(out: &mut [u8], at: usize, number: Option<u8>, list: &[u8]) -> usize
+    requires { (at < 80000) × (length list.now < 1000) }
+    ensures written { out.new ≡ sets out.old at (number_digit number ∷ decision_text list.now) }
+    ensures end { result ≡ at + 3 * length list.now + 2 }
+{
+    put(out, at, number_digit(number));
+    put_decisions(out, at + 1, list);
+    let end = at + 3 * list.len() + 1;
+    put(out, end, b'\n');
+    end + 1
 }
